@@ -4,11 +4,11 @@
 // A text whose name ends with .jsonl is lines of one length: each is read by itself, or all by a parser of streams.
 // A contender is simdjson, stage1 (simdjson's), rapidjson, yajl, serde_json=LIBRARY.so, or ours: parse-LEVEL=LIBRARY.so,
 // scan-LEVEL=LIBRARY.so, c-LEVEL=LIBRARY.so (the library for C), for lines many (simdjson's stream) and stream=LIBRARY.so
-// (serde_json's), refuse-LEVEL=LIBRARY.so, which is timed at texts that it refuses, and at no other, TASK:CONTENDER, where
+// (serde_json's), reject-LEVEL=LIBRARY.so, which is timed at texts that it rejects, and at no other, TASK:CONTENDER, where
 // TASK is a number of tasks.hpp and CONTENDER is simdjson, rapidjson or tasks-LEVEL=LIBRARY.so, or FORM:CONTENDER, where FORM
 // is lines, tweets or map and CONTENDER serde_json=LIBRARY.so or typed-LEVEL=LIBRARY.so (ours and the toolchain's serde_json).
 // Writes a line for each text and contender: its path, its bytes, what is timed, the contender, and the nanoseconds of a
-// byte at the fastest round, or `-` where the text was refused. Libraries of one LEVEL that differ in where the code lies are
+// byte at the fastest round, or `-` where the text was rejected. Libraries of one LEVEL that differ in where the code lies are
 // contenders of one name, with a line each. A contender that is not installed is named on standard error. Those who count,
 // count the same, or nothing is told: that is the test that each did the work.
 #include <dlfcn.h>
@@ -81,7 +81,7 @@ class Copies {
     uint8_t *first;
 };
 
-// Reads the first so many copies. What it counted in them (0: it does not count), negative where one was refused.
+// Reads the first so many copies. What it counted in them (0: it does not count), negative where one was rejected.
 using Read = std::function<int64_t(const Copies &, size_t)>;
 
 static const char *const PARTS[] = {"parse", "scan", "task"};
@@ -93,7 +93,7 @@ struct Contender {
     // Makes its buffers at the first copy and keeps them, so the time of one copy is taken off that of all.
     bool makes_buffers_once = false;
     double fastest_one = 1e300, fastest_all = 1e300;
-    bool has_refused = false;
+    bool has_rejected = false;
 
     double ns_per_byte(const Copies &c) const {
         double bytes = double(c.len());
@@ -222,9 +222,9 @@ static void add_parse(std::vector<Contender> &all, const std::string &level, con
     all.push_back({Contender::Parse, "simd_json fresh, " + level, each(parse)});
 }
 
-static void add_refuse(std::vector<Contender> &all, const std::string &level, const std::string &path) {
+static void add_reject(std::vector<Contender> &all, const std::string &level, const std::string &path) {
     auto *parse = symbol<int64_t(uint8_t *, size_t)>(path, "simd_json_bench_parse");
-    all.push_back({Contender::Parse, "simd_json refusing, " + level, each([parse](uint8_t *text, size_t len) -> int64_t {
+    all.push_back({Contender::Parse, "simd_json rejecting, " + level, each([parse](uint8_t *text, size_t len) -> int64_t {
                        return parse(text, len) == -1 ? 0 : -1;
                    })});
 }
@@ -278,7 +278,7 @@ static void add(std::vector<Contender> &all, const std::string &word) {
     else if (name == "yajl") add_yajl(all);
     else if (name == "serde_json") add_serde_json(all, path);
     else if (name.rfind("parse-", 0) == 0) add_parse(all, name.substr(6), path);
-    else if (name.rfind("refuse-", 0) == 0) add_refuse(all, name.substr(7), path);
+    else if (name.rfind("reject-", 0) == 0) add_reject(all, name.substr(7), path);
     else if (name.rfind("c-", 0) == 0) add_c(all, name.substr(2), path);
     else if (name.rfind("scan-", 0) == 0) add_scan(all, name.substr(5), path);
     else stop("no contender " + word);
@@ -321,7 +321,7 @@ static void sample(Contender &c, Copies &copies, int64_t (&nodes_or_positions)[3
         c.fastest_one = std::min(c.fastest_one, nanoseconds(c, copies, 1, counted));
     }
     if (counted >= 0) c.fastest_all = std::min(c.fastest_all, nanoseconds(c, copies, copies.count, counted));
-    c.has_refused = counted < 0;
+    c.has_rejected = counted < 0;
     int64_t &told = nodes_or_positions[c.part];
     if (counted > 0 && told > 0 && counted != told) stop(c.name + " counts otherwise than those before it");
     if (counted > 0) told = counted;
@@ -340,11 +340,11 @@ static void race(const std::string &path, size_t rounds, const std::vector<std::
     for (size_t round = 0; round <= rounds; round++)
         for (size_t i = 0; i < all.size(); i++) {
             Contender &next = all[(i + round) % all.size()];
-            if (!next.has_refused) sample(next, copies, counts);
+            if (!next.has_rejected) sample(next, copies, counts);
         }
     for (auto &c : all) {
         printf("%s\t%zu\t%s\t%s\t", path.c_str(), text.size(), PARTS[c.part], c.name.c_str());
-        if (c.has_refused) printf("-\n");
+        if (c.has_rejected) printf("-\n");
         else printf("%.5f\n", c.ns_per_byte(copies));
     }
     fflush(stdout);

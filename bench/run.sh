@@ -40,7 +40,7 @@ shared() {
 parses=
 calls=
 scans=
-refusals=
+rejections=
 for level in $levels; do
     say "proving and building the library at $level"
     static simd_json_bench
@@ -59,7 +59,7 @@ for level in $levels; do
         parses="$parses parse-${level#x86-64-}=$library"
         calls="$calls c-${level#x86-64-}=$OUT/c-$level-$placement.so"
         scans="$scans scan-${level#x86-64-}=$library"
-        refusals="$refusals refuse-${level#x86-64-}=$library"
+        rejections="$rejections reject-${level#x86-64-}=$library"
         tasks="$tasks tasks-${level#x86-64-}=$library"
         typed="$typed typed-${level#x86-64-}=$OUT/simd_json_typed_bench-$level-$placement.so"
         placement=$((placement + 1))
@@ -117,7 +117,7 @@ done
 
 # Their samples are 64 times as long.
 # shellcheck disable=SC2086
-sh bench/shapes.sh "$OUT" $(((ROUNDS + 3) / 4)) "$OUT/simd_json_bench-x86-64-v2-0.so" $parses $refusals
+sh bench/shapes.sh "$OUT" $(((ROUNDS + 3) / 4)) "$OUT/simd_json_bench-x86-64-v2-0.so" $parses $rejections
 
 results="$OUT/kinds.tsv $OUT/varied.tsv $OUT/sizes.tsv $OUT/shapes.tsv $OUT/memory.tsv $OUT/lines.tsv $OUT/tasks.tsv $OUT/typed.tsv"
 # shellcheck disable=SC2086

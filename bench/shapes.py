@@ -1,7 +1,7 @@
 """shapes.py: writes the names of the shapes that are made to be slow, one a line.
 shapes.py NAME BYTES: writes the text of a shape, of about so many bytes.
 
-Each is one piece again and again between a beginning and an end. Those of REFUSED are refused, as late as their kind can be."""
+Each is one piece again and again between a beginning and an end. Those of REJECTED are rejected, as late as their kind can be."""
 import sys
 
 ACCEPTED = {
@@ -26,14 +26,14 @@ ACCEPTED = {
     # A block full of positions, and one without any.
     "full and empty blocks": (b"[1" + b" " * 62, b",1" * 32 + b" " * 64, b"]"),
 }
-REFUSED = {
+REJECTED = {
     "open brackets": (b"", b"[", b""),
     "open string": (b'"', b"a", b""),
     "backslashes outside": (b"", rb"\\", b""),
     "commas": (b"[", b",", b"]"),
     "encoding wrong at the end": (b'"', b"a", b"\xff"),
 }
-SHAPES = ACCEPTED | REFUSED
+SHAPES = ACCEPTED | REJECTED
 
 
 def main():

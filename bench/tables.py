@@ -21,7 +21,7 @@ LEFT_OUT = ["fresh", "C check", "C kept parse", "yajl, events alone", "rapidjson
 
 
 class Results:
-    """`ns[path of a text, contender]`: the nanoseconds of a byte at the fastest round, or None where it was refused.
+    """`ns[path of a text, contender]`: the nanoseconds of a byte at the fastest round, or None where it was rejected.
 
     Of a contender whose code was timed at more than one place, the median over these."""
 
@@ -117,7 +117,7 @@ def means(*parts, ours=True):
 def table_of_shapes(shapes, memory):
     """Nanoseconds of a byte at both sizes and their ratio; for kept buffers besides how often that is a tweet's, at most."""
     kept = [c for c in shapes.contenders("parse", ours=True) if " kept, " in c]
-    pairs = [(c, c.replace("kept", "fresh"), c.replace("kept", "refusing")) for c in kept]
+    pairs = [(c, c.replace("kept", "fresh"), c.replace("kept", "rejecting")) for c in kept]
     names = list(dict.fromkeys(Path(t).stem for t in shapes.sizes))
     texts = {(Path(t).stem, i): t for i, n in enumerate(SHAPE_BYTES) for t in shapes.sizes if f"/{n}/" in t}
 
@@ -132,7 +132,7 @@ def table_of_shapes(shapes, memory):
     head = ["shape", *(n.removeprefix("simd_json ") for c, fresh, _ in pairs for n in (c, fresh)), "of a tweet's byte", "memory a byte"]
     used = dict(line.split("\t") for line in Path(memory).read_text().splitlines())
     lines = [
-        [n, *(x for c, fresh, refusing in pairs for x in (cell(n, c), cell(n, fresh, refusing))), of_a_tweet(n), used[n]]
+        [n, *(x for c, fresh, rejecting in pairs for x in (cell(n, c), cell(n, fresh, rejecting))), of_a_tweet(n), used[n]]
         for n in names
     ]
     return rows(head, lines)

@@ -25,15 +25,15 @@ wrapper() {
         build/libsimd_json.a -o "$room/wrapper"
 }
 
-# refuses CASE NAMED: that part of tests/c/refused.cpp must not compile; the first error names why.
-refuses() {
-    if LC_ALL=C c++ -std=c++17 -fsyntax-only -Iinclude "-DCASE=$1" tests/c/refused.cpp \
+# rejects CASE NAMED: that part of tests/c/must_not_compile.cpp must not compile; the first error names why.
+rejects() {
+    if LC_ALL=C c++ -std=c++17 -fsyntax-only -Iinclude "-DCASE=$1" tests/c/must_not_compile.cpp \
         2> "$room/log"; then
-        echo "tests/c/refused.cpp compiles with -DCASE=$1"
+        echo "tests/c/must_not_compile.cpp compiles with -DCASE=$1"
         exit 1
     fi
     grep -m1 'error: ' "$room/log" | grep -q "$2" && return
-    echo "tests/c/refused.cpp with -DCASE=$1: the first error does not name $2"
+    echo "tests/c/must_not_compile.cpp with -DCASE=$1: the first error does not name $2"
     cat "$room/log"
     exit 1
 }
@@ -68,11 +68,11 @@ if command -v c++ > /dev/null; then
         wrapper -std=c++20 $sanitized
         run "$room/wrapper"
     fi
-    run c++ -std=c++17 -fsyntax-only -Wall -Wextra -Werror -Iinclude -DCASE=0 tests/c/refused.cpp
-    for case in 1 2 3; do refuses $case 'deleted.*parse'; done
-    for case in 4 5; do refuses $case 'deleted.*root'; done
-    for case in 6 7; do refuses $case 'deleted.*element'; done
-    refuses 8 'operator\[\]'
+    run c++ -std=c++17 -fsyntax-only -Wall -Wextra -Werror -Iinclude -DCASE=0 tests/c/must_not_compile.cpp
+    for case in 1 2 3; do rejects $case 'deleted.*parse'; done
+    for case in 4 5; do rejects $case 'deleted.*root'; done
+    for case in 6 7; do rejects $case 'deleted.*element'; done
+    rejects 8 'operator\[\]'
 else
     left_out="$left_out C++ (no c++);"
 fi
@@ -84,7 +84,7 @@ if python3 -c 'import sysconfig, os; raise SystemExit(not os.path.exists(sysconf
     run python3 -m unittest discover -s python/tests
     include=$(python3 -c 'import sysconfig; print(sysconfig.get_paths()["include"])')
     # The same with a module whose allocations fail in turn.
-    native_module "$room/failing" -O1 python/native.c python/tests/refuse.c build/libsimd_json.a \
+    native_module "$room/failing" -O1 python/native.c python/tests/failing.c build/libsimd_json.a \
         -Wl,--wrap=malloc,--wrap=realloc,--wrap=free
     run env "PYTHONPATH=$room/failing" python3 python/tests/test_memory.py
     # Python in a program, with other interpreters beside the first.

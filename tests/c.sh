@@ -1,6 +1,6 @@
 #!/bin/sh
 # Calls the library from C and from Python: the rows of tests/vectors and 1,000 mutants against Python's json, memory of each
-# size, each allocation refused, all under valgrind too, and the header's example after an install. Silent where all is well
+# size, each allocation rejected, all under valgrind too, and the header's example after an install. Silent where all is well
 # but for a line of what was left out; else it says what differs, and ends with status 1.
 set -eu
 cd "$(dirname "$0")/.."

@@ -1,6 +1,6 @@
 #!/bin/sh
 # Runs each `sh` block of docs/LINES.md and examples/README.md as it is printed there, over logs of 150,000 lines of which two are
-# refused, and compares what it writes, byte for byte, with what one process writes, and the status with what those pages say. The
+# rejected, and compares what it writes, byte for byte, with what one process writes, and the status with what those pages say. The
 # hosts of GNU parallel are two SSH servers in network namespaces that are made here; Dask has two worker processes. A command for
 # many machines also runs while a host or a worker dies in the middle of a part. Prints a line for each run and for what was left
 # out, cleans up, and ends within two minutes, with status 1 where something differs.
@@ -114,7 +114,7 @@ END
 }
 
 # The logs: an object of nine members a line, but for the first line of the first log and the last of the last, so that two parts
-# have a refused line however the logs are cut.
+# have a rejected line however the logs are cut.
 mkdir logs parallel dask killed
 awk 'BEGIN {
     for (i = 0; i < 150000; i++) {
@@ -133,9 +133,9 @@ export PARALLEL_HOME="$room/parallel" PARALLEL_SSH="ssh -F $room/ssh_config"
 jtape lines < big.jsonl > one.jsonl
 [ "$?,$(grep -c '^!' one.jsonl),$(wc -l < one.jsonl)" = 1,2,150000 ] || wrong "one process"
 
-# A failed allocation has jtape's status of a refused line. To jtape-lines only the first is a failure.
+# A failed allocation has jtape's status of a rejected line. To jtape-lines only the first is a failure.
 jtape-lines < big.jsonl | cmp - one.jsonl || wrong "jtape-lines"
-jtape-lines < logs/0.jsonl > out.jsonl || wrong "jtape-lines, a refused line: status $?"
+jtape-lines < logs/0.jsonl > out.jsonl || wrong "jtape-lines, a rejected line: status $?"
 # shellcheck disable=SC3045
 (ulimit -v 20000 && jtape-lines < big.jsonl) > out.jsonl 2> err && wrong "jtape-lines, a failed allocation: status 0"
 grep -q OutOfMemory err || wrong "jtape-lines, a failed allocation is not reported"
@@ -185,11 +185,11 @@ while read -r command <&3; do
     esac
 done 3< commands
 
-# To an engine a refused line is a failed part, where nothing stands between: parallel runs it again and prints it in the end,
+# To an engine a rejected line is a failed part, where nothing stands between: parallel runs it again and prints it in the end,
 # Dask stops.
 [ "$with_parallel" = no ] || runs 2 'parallel --pipe --block 10M -k --retries 3 jtape lines < big.jsonl > out.jsonl'
 if [ "$with_dask" = yes ]; then
-    examples/dask/lines.py 'jtape lines' logs/*.jsonl > out.jsonl 2> err && wrong "Dask, a refused line: status 0"
+    examples/dask/lines.py 'jtape lines' logs/*.jsonl > out.jsonl 2> err && wrong "Dask, a rejected line: status 0"
     grep -q 'returned non-zero exit status 1' err || wrong "Dask does not say which status it took as failure"
 fi
 exit "$different"

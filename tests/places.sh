@@ -76,10 +76,10 @@ status=$?
 wanted 'lines of 64 MB' 0 ''
 
 # A file that can't be read does not keep the others from being checked.
-printf '[1,]' > "$room/refused"
-"$program" "$room/none" "$room" "$room/refused" > "$room/out" 2> "$room/err"
+printf '[1,]' > "$room/rejected"
+"$program" "$room/none" "$room" "$room/rejected" > "$room/out" 2> "$room/err"
 status=$?
-wanted 'files that can not be read' 3 "$room/refused:1:4: expected a value"
+wanted 'files that can not be read' 3 "$room/rejected:1:4: expected a value"
 grep -q "^jcheck: $room/none: No such file" "$room/err" && grep -q "^jcheck: $room: Is a directory" "$room/err" || {
     different=1
     echo "standard error lacks the reasons:"
@@ -87,9 +87,9 @@ grep -q "^jcheck: $room/none: No such file" "$room/err" && grep -q "^jcheck: $ro
 }
 
 # Where there is one column, the place itself is shown.
-COLUMNS=1 "$program" "$room/refused" > "$room/out" 2> "$room/err"
+COLUMNS=1 "$program" "$room/rejected" > "$room/out" 2> "$room/err"
 status=$?
-wanted 'one column' 1 "$room/refused:1:4: expected a value, found \`]\` [InternalError at byte 3]
+wanted 'one column' 1 "$room/rejected:1:4: expected a value, found \`]\` [InternalError at byte 3]
 ]
 ^"
 

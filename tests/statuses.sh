@@ -70,7 +70,7 @@ nested() {
 # A parse does not recurse, and a container takes about 11 bytes of the stack that prints it.
 nested 250000 6000
 
-# What is refused is reported, and nothing is written.
+# What is rejected is reported, and nothing is written.
 for mode in tape positions compact pretty; do
     given '[1,]' "$mode"
     wanted "a comma too many, $mode" 1 '' "InternalError at character 3 (']')\n"
@@ -84,9 +84,9 @@ wanted 'an array within depth 0' 1 '' "DepthLimitExceeded at character 0 ('[')\n
 given "$(printf '%01025d' 0 | tr 0 '[')" tape
 wanted '1,025 brackets' 1 '' "DepthLimitExceeded at character 1024 ('[')\n"
 
-# Of a stream of lines each that is refused has a line, and the others are printed.
+# Of a stream of lines each that is rejected has a line, and the others are printed.
 given '{"a": 1}\n\n[1,]\n 2 ' lines
-wanted 'lines, one of them refused' 1 '{"a":1}\n! InternalError at character 3 ('"']'"')\n2\n' ''
+wanted 'lines, one of them rejected' 1 '{"a":1}\n! InternalError at character 3 ('"']'"')\n2\n' ''
 given '[ 1 ]\r\n \t\n\n{}\n' lines
 wanted 'lines that are blank or documents' 0 '[1]\n{}\n' ''
 given '' lines
@@ -125,7 +125,7 @@ for mode in tape positions compact pretty lines; do
     if [ "$mode" != lines ]; then
         echo '[1' | "$program" "$mode" >&- 2> "$room/err"
         status=$?
-        wanted "a refused document and closed output, $mode" 1 '' "Syntax at character 1 ('1')\n"
+        wanted "a rejected document and closed output, $mode" 1 '' "Syntax at character 1 ('1')\n"
     fi
     if [ -w /dev/full ]; then
         echo '[1]' | "$program" "$mode" > /dev/full 2> "$room/err"
@@ -136,7 +136,7 @@ done
 : > "$room/err"
 echo '[1' | "$program" tape > "$room/out" 2>&-
 status=$?
-wanted 'a refused document and closed standard error' 1 '' ''
+wanted 'a rejected document and closed standard error' 1 '' ''
 
 # log_report counts by keys, and by JSON Pointers.
 program=$log_report
@@ -222,9 +222,9 @@ program=${3:-$(dirname "$0")/../crates/jpick_main/out/jpick_main}
 given '{"a":"x"}\n \n{"a":2}' /a
 wanted 'fields' 0 '"x"\n2\n' ''
 given '{"a":1}\n[1,]\n{"a":3}\n' -r /a ''
-wanted 'fields, where a line is refused' 1 '1\t{"a":1}\n3\t{"a":3}\n' '-:2:4: expected a value, found `]`\n'
+wanted 'fields, where a line is rejected' 1 '1\t{"a":1}\n3\t{"a":3}\n' '-:2:4: expected a value, found `]`\n'
 given '[1,]\n' -q /a
-wanted 'a refused line, quietly' 1 '' ''
+wanted 'a rejected line, quietly' 1 '' ''
 given '[12]\n[1]' --longest 3 /0
 wanted 'a line that is too long' 1 '1\n' '-:1: longer than 3 bytes\n'
 filtered='{"k":1}\n{"k":1.0}\n{"k":-0}\n{"k":0}\n{"k":[1]}\n{}\n'

@@ -1,7 +1,7 @@
 //! The entries through which the benchmark times serde_json.
 mod typed;
 
-/// Reads a text as a `Value`, which is let go again. Negative where it was refused.
+/// Reads a text as a `Value`, which is let go again. Negative where it was rejected.
 ///
 /// # Safety
 ///
@@ -15,7 +15,7 @@ pub unsafe extern "C" fn serde_json_value(text: *const u8, len: usize) -> i64 {
     }
 }
 
-/// Reads texts one after another as values, each of which is let go again. Negative where one was refused.
+/// Reads texts one after another as values, each of which is let go again. Negative where one was rejected.
 ///
 /// # Safety
 ///

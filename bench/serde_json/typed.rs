@@ -133,7 +133,7 @@ fn all<'de, T: Deserialize<'de> + Sum>(texts: &'de [u8], stride: usize, len: usi
 // Exports a function for types with such strings.
 macro_rules! export {
     ($name:ident, $text:ty) => {
-        /// Reads texts of `len` bytes, one at the front of each `stride`. Returns the sum, or 2^64 - 1 where one was refused.
+        /// Reads texts of `len` bytes, one at the front of each `stride`. Returns the sum, or 2^64 - 1 where one was rejected.
         ///
         /// # Safety
         ///

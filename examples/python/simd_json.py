@@ -33,7 +33,7 @@ class Document(ctypes.Structure):
     _fields_ = [("nodes", c_void_p), ("nodes_len", c_size_t), ("text", c_void_p), ("text_len", c_size_t)]
 
 
-class Refused(ValueError):
+class Rejected(ValueError):
     """The input is not a document within the limits."""
 
     def __init__(self, name, status, place):
@@ -73,26 +73,26 @@ class Library:
     def kind_name(self, kind):
         return self._name(self._kind_name, kind)
 
-    def _refuse(self, status, place):
-        raise Refused(self.status_name(status), status, place)
+    def _reject(self, status, place):
+        raise Rejected(self.status_name(status), status, place)
 
     @contextlib.contextmanager
     def _parser(self, max_depth):
         parser, nowhere = Parser(), Place(0, 0)
         status = self._open(byref(parser), max_depth)
         if status:
-            self._refuse(status, nowhere)
+            self._reject(status, nowhere)
         try:
             yield byref(parser)
         finally:
             self._close(byref(parser))
 
     def check(self, data, max_depth=1024):
-        """Raises Refused where the bytes are not a document."""
+        """Raises Rejected where the bytes are not a document."""
         place = Place()
         status = self._check(data, len(data), max_depth, byref(place))
         if status:
-            self._refuse(status, place)
+            self._reject(status, place)
 
     def tape(self, data, max_depth=1024):
         """The nodes, and the bytes of their texts."""
@@ -101,7 +101,7 @@ class Library:
             # The input is overwritten, and what is lent is the parser's: both are copied.
             status = self._parse(parser, ctypes.create_string_buffer(data, len(data)), len(data), byref(document), byref(place))
             if status:
-                self._refuse(status, place)
+                self._reject(status, place)
             nodes = ctypes.string_at(document.nodes, document.nodes_len * ctypes.sizeof(Node))
             text = ctypes.string_at(document.text, document.text_len) if document.text_len else b""
         return list((Node * document.nodes_len).from_buffer_copy(nodes)), text
@@ -147,7 +147,7 @@ class Library:
                     break
                 out = ctypes.create_string_buffer(needed.value)
         if status:
-            self._refuse(status, place)
+            self._reject(status, place)
         return out.raw[:needed.value]
 
     def compact(self, data, max_depth=1024):

@@ -26,7 +26,7 @@ def is_half_made(found):
     return type(found) is list and len(gc.get_referents(found)) < len(found)
 
 
-class Refused(Exception):
+class Rejected(Exception):
     pass
 
 
@@ -98,7 +98,7 @@ class Hostile:
         elif act == 1:
             self.parser = None
         elif act == 2:
-            raise Refused
+            raise Rejected
         elif act == 3 and self.parser is not None:
             self.parser.__init__(self)
         elif act == 4 and isinstance(self.input, bytearray):
@@ -146,7 +146,7 @@ class Hostile:
         text, cleared = self.text(), self.cleared
         try:
             found = self.call(text)
-        except Refused:
+        except Rejected:
             return
         # What is whole may be found, and cleared, too.
         if self.cleared == cleared:
@@ -194,7 +194,7 @@ class Hostility(unittest.TestCase):
         self.addCleanup(sys.setswitchinterval, sys.getswitchinterval())
         sys.setswitchinterval(1e-3)
         self.addCleanup(setattr, sys, "unraisablehook", sys.unraisablehook)
-        sys.unraisablehook = lambda raised: self.assertIs(raised.exc_type, Refused)
+        sys.unraisablehook = lambda raised: self.assertIs(raised.exc_type, Rejected)
         gc.freeze()  # what there is already is not looked at
         self.addCleanup(gc.unfreeze)
         failed = []

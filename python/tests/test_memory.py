@@ -1,4 +1,4 @@
-"""Each allocation fails in turn: those of the module and the library (where tests/refuse.c is linked in), and Python's own.
+"""Each allocation fails in turn: those of the module and the library (where tests/failing.c is linked in), and Python's own.
 A call that fails raises MemoryError, leaves nothing behind, and the next one succeeds."""
 import ctypes
 import gc
@@ -46,9 +46,9 @@ class Memory(unittest.TestCase):
         try:
             allowed, held = (ctypes.c_int.in_dll(native, "simd_json_" + name) for name in ("allowed", "held"))
         except ValueError:
-            self.skipTest("refuse.c is not linked in")
+            self.skipTest("failing.c is not linked in")
         for call in [*calls(), nested]:
-            refused = 0
+            failures = 0
             for count in range(1000):
                 simd_json.loads(LARGE)
                 self.assertEqual(held.value, 0)
@@ -58,9 +58,9 @@ class Memory(unittest.TestCase):
                 self.assertTrue(gc.isenabled())
                 if not failed:
                     break
-                refused += 1
+                failures += 1
                 self.assertEqual(simd_json.loads(TEXT), VALUE)
-            self.assertGreater(refused, 2)
+            self.assertGreater(failures, 2)
 
     def test_check_s(self):
         """It copies a bytearray alone, which other threads can change, and after a large input the
@@ -69,7 +69,7 @@ class Memory(unittest.TestCase):
         try:
             allowed, held = (ctypes.c_int.in_dll(native, "simd_json_" + name) for name in ("allowed", "held"))
         except ValueError:
-            self.skipTest("refuse.c is not linked in")
+            self.skipTest("failing.c is not linked in")
         text = '["é"' + " " * 100000 + "]"
         data, parser = text.encode(), simd_json.Parser()
         parser.check(data)
@@ -89,7 +89,7 @@ class Memory(unittest.TestCase):
             from _testcapi import remove_mem_hooks, set_nomemory
         except ImportError:
             self.skipTest("_testcapi is not installed")
-        refused = 0
+        failures = 0
         for call in [*calls(), nested, fresh]:
             for start in range(1, 400):
                 set_nomemory(start, start + 1)
@@ -98,9 +98,9 @@ class Memory(unittest.TestCase):
                 finally:
                     remove_mem_hooks()
                 self.assertTrue(gc.isenabled())
-                refused += failed
+                failures += failed
             self.assertEqual(simd_json.loads(TEXT), VALUE)
-        self.assertGreater(refused, 50)
+        self.assertGreater(failures, 50)
 
     def test_references(self):
         """The same calls again and again hold nothing more."""

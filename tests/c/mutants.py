@@ -1,10 +1,10 @@
 """1,000 documents with a few bytes changed, and what Python's json says of each: the outside judge.
 
     mutants.py write FILE           writes a line for each: the bytes and the compact text, both as hexadecimal digits; the
-                                    text is `-` where the bytes are refused
+                                    text is `-` where the bytes are rejected
     mutants.py compare FILE LIBRARY compares what examples/python reads through LIBRARY. Silent where all is well
 
-What json.loads takes beyond RFC 8259 and the limits is refused here: NaN and Infinity, lone surrogates, a byte order mark,
+What json.loads takes beyond RFC 8259 and the limits is rejected here: NaN and Infinity, lone surrogates, a byte order mark,
 integers past 128 bits. A decimal is compared by its literal.
 """
 import json
@@ -87,9 +87,9 @@ def compare(path, library):
     try:
         ours.check(b"[1,]")
         sys.exit("[1,] is taken")
-    except simd_json.Refused as refused:
-        if (str(refused), refused.character) != ("InternalError at character 3", ord("]")):
-            sys.exit(f"[1,]: {refused}")
+    except simd_json.Rejected as rejected:
+        if (str(rejected), rejected.character) != ("InternalError at character 3", ord("]")):
+            sys.exit(f"[1,]: {rejected}")
     if ours.kind_name(simd_json.DECIMAL) != "Decimal":
         sys.exit(f"a decimal is called {ours.kind_name(simd_json.DECIMAL)}")
     for line in pathlib.Path(path).read_text().splitlines():
@@ -99,7 +99,7 @@ def compare(path, library):
             value = ours.loads(data, DEPTH, Decimal)
             ours.check(data, DEPTH)
             again = ours.loads(ours.pretty(data, DEPTH), DEPTH, Decimal)
-        except simd_json.Refused:
+        except simd_json.Rejected:
             text = None
         if text != answer:
             sys.exit(f"{data}: {text} in place of {answer}")

@@ -69,8 +69,8 @@ def told(call, *arguments):
     """What a call returns, or what is told of its error."""
     try:
         return call(*arguments)
-    except simd_json.Refused as refused:
-        return f"! {refused}" + (f" ('{chr(refused.character)}')" if refused.character != NO_CHARACTER else "")
+    except simd_json.Rejected as rejected:
+        return f"! {rejected}" + (f" ('{chr(rejected.character)}')" if rejected.character != NO_CHARACTER else "")
 
 
 def is_error(answer):

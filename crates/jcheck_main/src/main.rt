@@ -47,11 +47,11 @@ fn terminal_width(rt: &HostRuntime) -> usize {
 
 // Whether standard output is a terminal, and `NO_COLOR` is empty or not set.
 fn has_colors(rt: &HostRuntime) -> bool {
-    let is_refused = match env::var(rt, "NO_COLOR") {
+    let is_rejected = match env::var(rt, "NO_COLOR") {
         Ok(value) => !value.is_empty(),
         Err(e) => e != VarError::NotPresent,
     };
-    rt.stdout().is_terminal() && !is_refused
+    rt.stdout().is_terminal() && !is_rejected
 }
 
 fn check_files(rt: &HostRuntime, options: &Options<'_>) -> Ended {

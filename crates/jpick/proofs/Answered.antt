@@ -23,7 +23,7 @@ answered b limit nodes d p is same =
 pub answered-error : (b : List ℕ) (limit capacity : ℕ) (e : Error) (nodes : List Item) (listed : List ℕ)
     → IsParse b limit capacity (Some e) nodes listed → HasMemory (Some e) → limit ≡ default_max_depth → answer b default_max_depth ≡ Err e
 answered-error b limit capacity e nodes listed p has is =
-    ap (answer b) (sym is) ∙ elim p.refused [ inl rejected ↦ rejected.answered | inr lacks ↦ absurd (has (ap Some lacks.0.0)) ]
+    ap (answer b) (sym is) ∙ elim p.rejected [ inl rejected ↦ rejected.answered | inr lacks ↦ absurd (has (ap Some lacks.0.0)) ]
 
 -- of a line that is rejected
 pub rejected-line : (w : Wanted) (file : List ℕ) (r : Picked) (line : List ℕ) (limit capacity : ℕ) (answer : Result Unit Error) (e : Error)

@@ -55,8 +55,8 @@ impl From<AllocError> for RunFault {
 
     ghost from_gives = { λ _ fault. fault ≡ Refused (whole_fault ErrorType.OutOfMemory) };
 
-    fn from(refused: AllocError) -> RunFault {
-        RunFault::Refused(Error::from(refused))
+    fn from(failed: AllocError) -> RunFault {
+        RunFault::Refused(Error::from(failed))
     }
 }
 

@@ -34,7 +34,7 @@ pub record IsParsed (b : List ℕ) (limit : ℕ) (nodes : List Item) : Type 0 wh
 -- with a character is not reported late: the bytes before it go on to a document. Where it is a token that an array
 -- or an object does not expect after an element, at a name, after a name or after a member, it is not early: with
 -- that token's first byte they do not.
-pub record IsRefused (b : List ℕ) (limit : ℕ) (e : Error) : Type 0 where
+pub record IsRejected (b : List ℕ) (limit : ℕ) (e : Error) : Type 0 where
   pub answered : answer b limit ≡ Err e
   pub not_denoted : (d : Document) → Denotes b d → WithinLimits b d limit → ⊥
   pub kinds : ((input_fault b ≡ Some e) × IsOfInput e) ⊎ ((input_fault b ≡ None) × IsOfToken e)
@@ -51,7 +51,7 @@ positions_after b (Some e) = if is_some e.character then positions b else []
 -- before is named.
 pub record IsParse (b : List ℕ) (limit capacity : ℕ) (fault : Option Error) (nodes : List Item) (listed : List ℕ) : Type 0 where
   pub parsed : IfNone fault (IsParsed b limit nodes)
-  pub refused : IfSome fault (λ e. IsRefused b limit e ⊎ (LacksMemory b e × (capacity < length b)))
+  pub rejected : IfSome fault (λ e. IsRejected b limit e ⊎ (LacksMemory b e × (capacity < length b)))
   pub empty : OnSome fault (nodes ≡ [])
   pub found : listed ≡ positions_after b fault
   pub few : (length nodes ≤ length (positions b)) × (length (positions b) ≤ length b)

@@ -11,7 +11,7 @@ ghost use Rattle.simd_json_parts.specs.InputFaults.{input_fault};
 ghost use Rattle.simd_json_parts.specs.Positions.{positions};
 ghost use Rattle.simd_json_stages.specs.Building.{IsWritten};
 ghost use Rattle.simd_json_stages.specs.NodesEnough.{nodes_enough};
-ghost use Rattle.simd_json_stages.specs.Refusals.{IsTokenFault};
+ghost use Rattle.simd_json_stages.specs.Rejections.{IsTokenFault};
 
 use crate::DEFAULT_MAX_DEPTH;
 use simd_json_check::Index;
@@ -200,7 +200,7 @@ impl<A: Allocator> Buffers<A> {
         ensures lender { S.lender sink.new ≡ S.lender sink.old }
         ensures few { OnOk result (length (S.held_nodes sink.new) ≤ length (positions K.bytes)) }
         ensures built { OnOk result (IsWritten K.bytes self.old.limit (S.held_nodes sink.new)) }
-        ensures refused { IfErr result
+        ensures rejected { IfErr result
             (λ e. IsTokenFault e × (descent K.bytes self.old.limit ≡ Err e)) }
     {
         let scanned = self.index.scanned();

@@ -6,7 +6,7 @@ ghost use Rattle.std.specs.Prelude.{Option, Some, None, Ok, IsSome};
 ghost use Rattle.std.specs.Result.{result_err};
 ghost use Rattle.simd_json.specs.Beneath.{beneath, descendants};
 ghost use Rattle.simd_json.specs.Parsed.{HasMemory};
-ghost use Rattle.simd_json.specs.Parsed.{IsPaddedParse, IsParse, IsRefused, answered_nodes};
+ghost use Rattle.simd_json.specs.Parsed.{IsPaddedParse, IsParse, IsRejected, answered_nodes};
 ghost use Rattle.simd_json.specs.Parsed.{positions_after};
 ghost use Rattle.simd_json.specs.Capacities.{KeepsCapacities, Capacities, capacity};
 ghost use Rattle.simd_json_parts.specs.Answer.{answer};
@@ -74,7 +74,7 @@ pub fn kept_lists_keep_capacity()
 
 /// An error has a character exactly if it is a token's: if the input as a whole has no error.
 pub fn faults_of_tokens_have_characters()
-    ensures { (b : List ℕ) (limit : ℕ) (e : Error) → IsRefused b limit e
+    ensures { (b : List ℕ) (limit : ℕ) (e : Error) → IsRejected b limit e
         → (IsSome e.character ↔ (input_fault b ≡ None)) }
 {}
 

@@ -5,7 +5,7 @@ ghost use Rattle.std.specs.Prelude.{length, map, vec_capacity};
 ghost use Rattle.std.specs.Prelude.{IfErr, IfOk, OnOk, OnErr, None, Err, ◌⊎◌};
 ghost use Rattle.std.specs.Result.{result_err};
 ghost use Rattle.simd_json.specs.Parsed.{IsPaddedParse, IsParse, IsParseResult};
-ghost use Rattle.simd_json.specs.Parsed.{IsParsed, IsRefused, nodes_of};
+ghost use Rattle.simd_json.specs.Parsed.{IsParsed, IsRejected, nodes_of};
 ghost use Rattle.simd_json.specs.Capacities.{HoldsScan, KeepsCapacities, ListsSame, capacity};
 ghost use Rattle.simd_json_check.specs.Capacities.{IsOutOfMemory, IsUnchecked, LacksMemory};
 ghost use Rattle.simd_json_check.specs.Capacities.{capped, default_max_depth};
@@ -17,7 +17,7 @@ ghost use Rattle.simd_json_parts.specs.Nodes.{Item, item_of};
 ghost use Rattle.simd_json_parts.specs.Positions.{positions};
 ghost use Rattle.simd_json_stages.specs.Building.{IsWritten};
 ghost use Rattle.simd_json_stages.specs.NodesEnough.{nodes_enough};
-ghost use Rattle.simd_json_stages.specs.Refusals.{IsTokenFault};
+ghost use Rattle.simd_json_stages.specs.Rejections.{IsTokenFault};
 
 use crate::buffers::Buffers;
 use crate::tape::Tape;
@@ -256,7 +256,7 @@ pub fn refill_tape<'de, A: Allocator, B: Allocator>(
 /// ```
 pub fn check<A: Allocator + Copy>(a: A, input: &[u8], max_depth: usize) -> Result<()>
     ensures parsed { OnOk result ((nodes : List Item) × IsParsed input.now max_depth nodes) }
-    ensures refused { IfErr result (λ e. IsRefused input.now max_depth e
+    ensures rejected { IfErr result (λ e. IsRejected input.now max_depth e
         ⊎ LacksMemory input.now e) }
 {
     Buffers::empty(a, max_depth).check(input)
@@ -272,7 +272,7 @@ impl<A: Allocator> Buffers<A> {
     pub fn check(&mut self, input: &[u8]) -> Result<()>
         ensures parsed { OnOk result
             ((nodes : List Item) × IsParsed input.now self.old.limit nodes) }
-        ensures refused { IfErr result (λ e. IsRefused input.now self.old.limit e
+        ensures rejected { IfErr result (λ e. IsRejected input.now self.old.limit e
             ⊎ IsUnchecked input.now self.old.limit self.old.index e) }
         ensures positions { OnOk result (self.new.index.listed ≡ positions input.now) }
         ensures limit { self.new.limit ≡ self.old.limit }
@@ -341,7 +341,7 @@ fn build<'de, K: Original, A: Allocator, B: Allocator>(
     ensures empty { OnErr result (map item_of list.new.items ≡ []) }
     ensures kept { buffers.new ≡ buffers.old }
     ensures capacity { vec_capacity list.new ≡ vec_capacity list.old }
-    ensures refused { IfErr result
+    ensures rejected { IfErr result
         (λ e. IsTokenFault e × (descent K.bytes buffers.old.limit ≡ Err e)) }
 {
     let mut sink = ListSink { list };

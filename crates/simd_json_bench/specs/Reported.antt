@@ -18,5 +18,5 @@ pub record HasFault (b : List ℕ) : Type 0 where
   pub answered : answer b default_max_depth ≡ Err fault
 
 -- -1, which is reported of a text with a fault
-abbrev pub refused : ℤ
-refused = negsuc 0
+abbrev pub rejected : ℤ
+rejected = negsuc 0

@@ -27,7 +27,7 @@
 #![tactic(auto)]
 
 ghost use Rattle.std.specs.Prelude.{◌≡◌, ◌≢◌, ℕ, pos, Ok, Err};
-ghost use Rattle.simd_json_bench.specs.Reported.{HasFault, HasNodes, refused};
+ghost use Rattle.simd_json_bench.specs.Reported.{HasFault, HasNodes, rejected};
 ghost use Rattle.simd_json_parts.specs.declared.error.Error.{Error};
 ghost use Rattle.simd_json_parts.specs.declared.error.ErrorType.{ErrorType};
 
@@ -39,19 +39,19 @@ mod tasks;
 #[cfg(test)]
 mod tests;
 
-const REFUSED: i64 = -1;
+const REJECTED: i64 = -1;
 
 const UNKNOWN: i64 = -2;
 
 fn reported(count: Result<usize>) -> i64
     ensures count { (n : ℕ) → result ≡ pos n → count ≡ Ok n }
-    ensures refused { result ≡ refused → (e : Error) × (count ≡ Err e)
+    ensures rejected { result ≡ rejected → (e : Error) × (count ≡ Err e)
         × (e.error ≢ ErrorType.OutOfMemory) }
 {
     match count {
         Ok(count) => i64::try_from(count).unwrap_or(UNKNOWN),
         Err(e) if *e.error() == ErrorType::OutOfMemory => UNKNOWN,
-        Err(_) => REFUSED,
+        Err(_) => REJECTED,
     }
 }
 
@@ -59,7 +59,7 @@ fn reported(count: Result<usize>) -> i64
 #[unsafe(no_mangle)]
 pub extern "C" fn simd_json_bench_parse(alloc: Global, text: &mut [u8]) -> i64
     ensures nodes { (n : ℕ) → result ≡ pos n → HasNodes text.old n }
-    ensures refused { result ≡ refused → HasFault text.old }
+    ensures rejected { result ≡ rejected → HasFault text.old }
 {
     reported(to_tape(alloc, text).map(|tape| tape.nodes().len()))
 }

@@ -8,8 +8,8 @@ type Tested = std::result::Result<(), Fail>;
 fn nodes_are_counted(rt: HostRuntime) -> Tested {
     let mut text = *b"{\"a\":[1,2.5,\"\\n\"]}";
     assert_eq!(rt; simd_json_bench_parse(rt.alloc(), &mut text), 6);
-    let mut refused = *b"[1,]";
-    assert_eq!(rt; simd_json_bench_parse(rt.alloc(), &mut refused), -1);
+    let mut rejected = *b"[1,]";
+    assert_eq!(rt; simd_json_bench_parse(rt.alloc(), &mut rejected), -1);
     Ok(())
 }
 
@@ -18,9 +18,9 @@ fn texts_lie_at_strides(rt: HostRuntime) -> Tested {
     let mut texts = *b"[1,2]...[3,4]...[5,6].";
     assert_eq!(rt; simd_json_bench_scan_all(rt.alloc(), &texts, 8, 5), 10);
     assert_eq!(rt; simd_json_bench_parse_all(rt.alloc(), &mut texts, 8, 5), 6);
-    let mut refused = *b"[1,2]...[3 4]...";
+    let mut rejected = *b"[1,2]...[3 4]...";
     assert_eq!(rt;
-        simd_json_bench_parse_all(rt.alloc(), &mut refused, 8, 5),
+        simd_json_bench_parse_all(rt.alloc(), &mut rejected, 8, 5),
         -1
     );
     let mut open = *b"[\"2]\"...[\"4].....";

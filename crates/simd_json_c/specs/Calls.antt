@@ -3,14 +3,14 @@ use Rattle.std.specs.Prelude.{◌≡◌, ◌≤◌, ◌<◌, ◌⊎◌, ◌++◌
 use Rattle.simd_json_parts.specs.Nodes.{Item}
 use Rattle.simd_json_parts.specs.declared.error.Error.{Error}
 use Rattle.simd_json_check.specs.Capacities.{LacksMemory}
-use Rattle.simd_json.specs.Parsed.{IsParsed, IsRefused}
+use Rattle.simd_json.specs.Parsed.{IsParsed, IsRejected}
 use Rattle.simd_json_c.specs.Statuses.{error_place, error_status, too_little_room}
 use Rattle.simd_json_c.specs.declared.status.ErrorPlace.{ErrorPlace}
 
 -- a check of b, where there was capacity for `capacity` bytes: a document within the limits, or the error that a parse has
 abbrev pub IsCheckOf : List ℕ → ℕ → ℕ → Option Error → Type 0
 IsCheckOf b limit capacity None = (ns : List Item) × IsParsed b limit ns
-IsCheckOf b limit capacity (Some e) = IsRefused b limit e ⊎ (LacksMemory b e × (capacity < length b))
+IsCheckOf b limit capacity (Some e) = IsRejected b limit e ⊎ (LacksMemory b e × (capacity < length b))
 
 -- what a call returns of it
 abbrev pub IsChecked : List ℕ → ℕ → ℕ → ℤ → ErrorPlace → Type 0

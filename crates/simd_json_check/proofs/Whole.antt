@@ -15,7 +15,7 @@ use Rattle.simd_json_parts.specs.Faults.{whole_fault}
 use Rattle.simd_json_parts.specs.InputFaults.{input_fault, scan_fault}
 use Rattle.simd_json_parts.specs.Limits.{max_length}
 use Rattle.simd_json_parts.specs.Positions.{positions, is_position}
-use Rattle.simd_json_check.specs.Capacities.{Capacities, KeepsCapacities, IsRefused, IsUnchecked, LacksMemory, capacity, check_capacity}
+use Rattle.simd_json_check.specs.Capacities.{Capacities, KeepsCapacities, IsRejected, IsUnchecked, LacksMemory, capacity, check_capacity}
 use Rattle.simd_json_parts.specs.declared.error.Error.{Error}
 use Rattle.simd_json_parts.specs.declared.error.ErrorType.TheVariants.{InputTooLarge, OutOfMemory}
 use Rattle.simd_json_stages.specs.NodesEnough.{nodes_enough}
@@ -59,12 +59,12 @@ pub nodes-within : (b : List ℕ) (count limit : ℕ) → input_fault b ≡ None
 unfolding nodes_enough
 nodes-within b count limit none is = omega (arith, is, few-positions b, (right-input b none).0)
 
--- ---- what the first stage refuses
+-- ---- what the first stage rejects
 
-pub check-refused : (b : List ℕ) (limit : ℕ) (before : Capacities) (e : Error) → IsRefused b before e
+pub check-rejected : (b : List ℕ) (limit : ℕ) (before : Capacities) (e : Error) → IsRejected b before e
     → (answer b limit ≡ Err e) ⊎ IsUnchecked b limit before e
-check-refused b limit before e (inl whole) = inl (fault-answered b limit e whole)
-check-refused b limit before e (inr (lacks, size, encoding, short)) = inr ((lacks, size, encoding), omega (arith, short))
+check-rejected b limit before e (inl whole) = inl (fault-answered b limit e whole)
+check-rejected b limit before e (inr (lacks, size, encoding, short)) = inr ((lacks, size, encoding), omega (arith, short))
 
 -- what is too short for a copy or a stack now was so for a check before
 check-short : (limit : ℕ) (old new : Capacities) (n : ℕ) → KeepsCapacities old new
@@ -77,11 +77,11 @@ check-short limit old new n kept (inr short) =
     (lt-ltb old.opened limit (omega (arith, short, kept.3))) in
     subst (λ k. min (capacity old) k < n) (sym is) (omega (arith, short, kept.3))
 
-pub copy-refused : (b : List ℕ) (limit : ℕ) (old new : Capacities) (e : Error) → KeepsCapacities old new
+pub copy-rejected : (b : List ℕ) (limit : ℕ) (old new : Capacities) (e : Error) → KeepsCapacities old new
     → (answer b limit ≡ Err e) ⊎ (LacksMemory b e × ((new.copied < length b) ⊎ (new.opened < min (length b) limit)))
     → (answer b limit ≡ Err e) ⊎ IsUnchecked b limit old e
-copy-refused b limit old new e kept (inl is) = inl is
-copy-refused b limit old new e kept (inr lacks) = inr (lacks.0, check-short limit old new (length b) kept lacks.1)
+copy-rejected b limit old new e kept (inl is) = inl is
+copy-rejected b limit old new e kept (inr lacks) = inr (lacks.0, check-short limit old new (length b) kept lacks.1)
 
 -- ---- want of memory
 
@@ -89,7 +89,8 @@ copy-refused b limit old new e kept (inr lacks) = inr (lacks.0, check-short limi
 pub size_right : (b : List ℕ) (limit : ℕ) (e : Error) → answer b limit ≡ Err e → e.error ≡ OutOfMemory → length b ≤ max_length
 size_right b limit e is kind = elim (cases_lt max_length (length b)) [
   | inl large ↦
-      let same : Err e ≡ Err (whole_fault InputTooLarge) = sym is ∙ fault-answered b limit (whole_fault InputTooLarge) (too_large b large) in
+      let same : Err e ≡ Err (whole_fault InputTooLarge) =
+          sym is ∙ fault-answered b limit (whole_fault InputTooLarge) (too_large b large) in
       absurd (cc (same, kind))
   | inr right ↦ right
 ]

@@ -65,8 +65,8 @@ LacksMemory b e = IsOutOfMemory e × (length b ≤ max_length) × IsUtf8 b
 
 -- The error of the input b: that of the whole input, as in a parse, or it needs more memory than there is. Memory is
 -- asked for once size and encoding are known to be right, and only where there is no capacity for as many bytes.
-abbrev pub IsRefused : List ℕ → Capacities → Error → Type 0
-IsRefused b before e =
+abbrev pub IsRejected : List ℕ → Capacities → Error → Type 0
+IsRejected b before e =
     (input_fault b ≡ Some e)
     ⊎ (IsOutOfMemory e × (length b ≤ max_length) × IsUtf8 b × (capacity before < length b))
 

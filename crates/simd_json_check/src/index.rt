@@ -2,7 +2,7 @@
 ghost use Rattle.std.specs.Prelude.{◌≡◌, ◌≤◌, ◌<◌, max, None};
 ghost use Rattle.std.specs.Prelude.{[], IfOk, OnOk, IfErr, OnErr};
 ghost use Rattle.simd_json_check.specs.Capacities.{capacity, capped, new_index};
-ghost use Rattle.simd_json_check.specs.Capacities.{KeepsCapacities, IsOutOfMemory, IsRefused};
+ghost use Rattle.simd_json_check.specs.Capacities.{KeepsCapacities, IsOutOfMemory, IsRejected};
 ghost use Rattle.simd_json_parts.specs.InputFaults.{input_fault};
 ghost use Rattle.simd_json_parts.specs.Positions.{positions};
 ghost use Rattle.simd_json_stages.specs.EscapeBlocks.{backslash_blocks, blocks_in};
@@ -127,7 +127,7 @@ impl<A: Allocator> Index<A> {
         ensures whole { OnOk result (input_fault input.now ≡ None) }
         ensures empty { OnErr result (self.new.listed ≡ []) }
         ensures kept { KeepsCapacities self.old self.new }
-        ensures fault { IfErr result (λ e. IsRefused input.now self.old e) }
+        ensures fault { IfErr result (λ e. IsRejected input.now self.old e) }
     {
         self.clear();
         let found = BlockStage1Parse::find_structural_bits(

@@ -25,7 +25,7 @@ use Rattle.simd_json_ondemand.specs.Sites.{Site, site, doc_at, element_site, pai
 use Rattle.simd_json_ondemand.specs.Standing.{opens_array, opens_object}
 use Rattle.simd_json_ondemand.specs.Stopped.{error_at, told}
 use Rattle.simd_json_ondemand.specs.Unexpected.{unexpected}
-use Rattle.simd_json_ondemand.specs.Walked.{array_walk, object_walk, refused, first_with}
+use Rattle.simd_json_ondemand.specs.Walked.{array_walk, object_walk, unexpected_here, first_with}
 use Rattle.simd_json_ondemand.specs.Walks.{Walk, stopped, ended, came, found, whole, first, walk_past, walk_from, walk_by, ok_map}
 use Rattle.simd_json_ondemand.specs.Walks.{elements_seen, members_seen}
 use Rattle.simd_json_ondemand.specs.declared.array.Position.TheVariants.{First}
@@ -141,7 +141,7 @@ module _ (t : List ℕ) (v : Value) where
   object-named g h =
       from-first ∙ cond-false _ _ _ g ∙ cond-true _ _ _ h ∙ ap (member_reached (unescaped t)) (sym (cond-true _ _ _ h))
 
-  pub other-named : opens_array (form v) ≡ false → opens_object (form v) ≡ false → named_at t (site v) ≡ Err (refused Container v)
+  pub other-named : opens_array (form v) ≡ false → opens_object (form v) ≡ false → named_at t (site v) ≡ Err (unexpected_here Container v)
   other-named g h =
       from-first ∙ cond-false _ _ _ g ∙ cond-false _ _ _ h ∙ ap (λ js. Err (unexpected b Container js)) (sym first-place)
 
@@ -246,11 +246,11 @@ module _ (t : List ℕ) (v : Value) (d : Document) (h : doc v ≡ Some d) where
   of-ok (Ok (Some w)) is = record { finds = (let e : Some (doc w) ≡ some_of (result_ok (named t d)) = cc in e); container = tt }
   of-ok (Err e) is = cc
 
-  of-err : (r : Result (Option Value) Stop) → told (option_map site) r ≡ Err (refused Container v) → result_ok (named t d) ≡ None
+  of-err : (r : Result (Option Value) Stop) → told (option_map site) r ≡ Err (unexpected_here Container v) → result_ok (named t d) ≡ None
       → IsStep r
   of-err (Ok o) is none = cc
   of-err (Err e) is none =
-      let same : error_at e ≡ refused Container v = cc in
+      let same : error_at e ≡ unexpected_here Container v = cc in
       record { finds = ap some_of (sym none); container = ap (λ x. x.expected) same }
 
   pub is-step : (r : Result (Option Value) Stop) → told (option_map site) r ≡ named_at t (site v) → IsStep r

@@ -17,7 +17,7 @@ use Rattle.simd_json_ondemand.specs.Iterated.{all_some}
 use Rattle.simd_json_ondemand.specs.IteratedMembers.{all_members}
 use Rattle.simd_json_ondemand.specs.Standing.{opens_array, opens_object}
 use Rattle.simd_json_ondemand.specs.Viewed.{read_along}
-use Rattle.simd_json_ondemand.specs.Walked.{array_seen, object_seen, array_walk, object_walk, refused, first_with, string_wanted}
+use Rattle.simd_json_ondemand.specs.Walked.{array_seen, object_seen, array_walk, object_walk, unexpected_here, first_with, string_wanted}
 use Rattle.simd_json_ondemand.specs.Stopped.{error_at, told}
 use Rattle.simd_json_ondemand.specs.Unexpected.{unexpected}
 use Rattle.simd_json_ondemand.specs.Walks.{stopped, ended, came, whole, first, walk_past, walk_from, ok_map}
@@ -71,7 +71,7 @@ module _ (v : Value) (d : Document) (h : doc v ≡ Some d) where
       ∙ elements-found (text v.document) (places v.document) v.at v.inside d h
       (eqb-true _ 91 (opens_array_byte (text v.document) (index_of v) ∙ opens))
 
-  array-none : is_array d ≡ false → array_walk v ≡ stopped (refused (Kind kinds.Array) v)
+  array-none : is_array d ≡ false → array_walk v ≡ stopped (unexpected_here (Kind kinds.Array) v)
   array-none is = cond-false _ _ _ (opens-array ∙ is)
 
   pub object-whole : is_object d ≡ true → Some (object_walk v) ≡ option_map (λ ms. whole (all_members ms)) (as_object d)
@@ -80,7 +80,7 @@ module _ (v : Value) (d : Document) (h : doc v ≡ Some d) where
       ∙ members-found (text v.document) (places v.document) v.at v.inside d h
       (eqb-true _ 123 (opens_object_byte (text v.document) (index_of v) ∙ opens))
 
-  object-none : is_object d ≡ false → object_walk v ≡ stopped (refused (Kind kinds.Object) v)
+  object-none : is_object d ≡ false → object_walk v ≡ stopped (unexpected_here (Kind kinds.Object) v)
   object-none is = cond-false _ _ _ (opens-object ∙ is)
 
 -- ---- look-up in a document
@@ -140,7 +140,7 @@ module _ (v : Value) where
   is = places v.document
 
   module _ {A : Type 0} (view : List ℕ → A) where
-    pub array-other : (e : Unexpected) → (byte_at b (index_of v) ≡ 91 → ⊥) → e ≡ refused (Kind kinds.Array) v
+    pub array-other : (e : Unexpected) → (byte_at b (index_of v) ≡ 91 → ⊥) → e ≡ unexpected_here (Kind kinds.Array) v
         → array_seen view v ≡ stopped e
     array-other e ne h =
         cond-false _ _ _ (sym (opens_array_byte b (index_of v)) ∙ ne_eqb (byte_at b (index_of v)) 91 ne) ∙ ap (λ x. stopped x) (sym h)
@@ -154,7 +154,7 @@ module _ (v : Value) where
         ∙ elements-seen-stop b view First [] (unexpected b expected.Value []) refl
         ∙ ap (λ ks. stopped (unexpected b expected.Value ks)) (sym (drop_all (v.at + 1) is l)) ∙ ap (λ x. stopped x) (sym is-e)
 
-    pub object-other : (e : Unexpected) → (byte_at b (index_of v) ≡ 123 → ⊥) → e ≡ refused (Kind kinds.Object) v
+    pub object-other : (e : Unexpected) → (byte_at b (index_of v) ≡ 123 → ⊥) → e ≡ unexpected_here (Kind kinds.Object) v
         → object_seen view v ≡ stopped e
     object-other e ne h =
         cond-false _ _ _ (sym (opens_object_byte b (index_of v)) ∙ ne_eqb (byte_at b (index_of v)) 123 ne) ∙ ap (λ x. stopped x) (sym h)

@@ -29,12 +29,12 @@ abbrev pub members_from_first : Object → Walk (Option parts.Document × Option
 members_from_first o = members_walk (text o.document) First (drop o.first (places o.document))
 
 -- the error that something else was expected of the value
-abbrev pub refused : Expected → Value → Unexpected
-refused expected v = unexpected (text v.document) expected (drop v.at (places v.document))
+abbrev pub unexpected_here : Expected → Value → Unexpected
+unexpected_here expected v = unexpected (text v.document) expected (drop v.at (places v.document))
 
 -- what an accessor returns of it, or that a value of its kind was expected
 abbrev pub tried : {A : Type 0} → Accessor A → Value → Result A Unexpected
-tried t v = ok_or (as_standing t v) (refused (Kind t.expected) v)
+tried t v = ok_or (as_standing t v) (unexpected_here (Kind t.expected) v)
 
 -- a string, and of one that it has no escape
 abbrev pub string_wanted : Form → Expected
@@ -45,13 +45,13 @@ string_wanted _ = Kind kinds.String
 abbrev pub array_seen : {A : Type 0} → (List ℕ → A) → Value → Walk A
 array_seen view v =
     if opens_array (form v) then elements_seen view (text v.document) First (drop (v.at + 1) (places v.document))
-    else stopped (refused (Kind kinds.Array) v)
+    else stopped (unexpected_here (Kind kinds.Array) v)
 
 -- of its members, if an object begins there
 abbrev pub object_seen : {A : Type 0} → (List ℕ → A) → Value → Walk A
 object_seen view v =
     if opens_object (form v) then members_seen view (text v.document) First (drop (v.at + 1) (places v.document))
-    else stopped (refused (Kind kinds.Object) v)
+    else stopped (unexpected_here (Kind kinds.Object) v)
 
 -- the documents that begin at them
 abbrev pub array_walk : Value → Walk (Option parts.Document)

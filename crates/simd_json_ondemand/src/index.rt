@@ -2,7 +2,7 @@
 ghost use Rattle.std.specs.Prelude.{◌≡◌, ◌≤◌, ◌<◌, ◌⊎◌, ℕ, max, Ok, Err, Some, None};
 ghost use Rattle.std.specs.Prelude.{[], IfOk, OnOk, IfErr, OnErr};
 ghost use Rattle.simd_json_check.specs.Capacities.{capacity, capped, new_index};
-ghost use Rattle.simd_json_check.specs.Capacities.{KeepsCapacities, IsOutOfMemory, IsRefused};
+ghost use Rattle.simd_json_check.specs.Capacities.{KeepsCapacities, IsOutOfMemory, IsRejected};
 ghost use Rattle.simd_json_check.specs.Capacities.{IsUnchecked};
 ghost use Rattle.simd_json_parts.specs.Answer.{answer};
 ghost use Rattle.simd_json_parts.specs.Document as parts;
@@ -119,7 +119,7 @@ impl<A: Allocator> Index<A> {
         ensures whole { OnOk result (input_fault input.now ≡ None) }
         ensures document { IfOk result (λ document. (d : parts.Document) (limit : ℕ)
             → answer input.now limit ≡ Ok d → root document ≡ Some d) }
-        ensures fault { IfErr result (λ e. IsRefused input.now self.old e) }
+        ensures fault { IfErr result (λ e. IsRejected input.now self.old e) }
     {
         self.fill(input)?;
         Ok(self.document(input))
@@ -137,7 +137,7 @@ impl<A: Allocator> Index<A> {
         ensures whole { OnOk result (input_fault input.now ≡ None) }
         ensures empty { OnErr result (self.new.listed ≡ []) }
         ensures kept { KeepsCapacities self.old self.new }
-        ensures fault { IfErr result (λ e. IsRefused input.now self.old e) }
+        ensures fault { IfErr result (λ e. IsRejected input.now self.old e) }
     {
         self.inner.find(input)
     }

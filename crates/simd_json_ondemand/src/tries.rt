@@ -16,7 +16,8 @@ impl<'d> Value<'d> {
     ghost use Rattle.simd_json_ondemand.specs.Reached.{key_reached};
     ghost use Rattle.simd_json_ondemand.specs.Sites.{array_sites, element_sites, site};
     ghost use Rattle.simd_json_ondemand.specs.Sites.{member_sites, object_sites};
-    ghost use Rattle.simd_json_ondemand.specs.Walked.{refused, tried, string_wanted, first_with};
+    ghost use Rattle.simd_json_ondemand.specs.Walked.{unexpected_here, tried, string_wanted};
+    ghost use Rattle.simd_json_ondemand.specs.Walked.{first_with};
     ghost use Rattle.simd_json_ondemand.specs.Walked.{array_walk, object_walk};
     ghost use Rattle.simd_json_ondemand.specs.Walked.{elements_ahead, members_ahead};
     ghost use Rattle.simd_json_ondemand.specs.Walked.{members_from_first};
@@ -30,15 +31,15 @@ impl<'d> Value<'d> {
     /// that have no `try_` form.
     #[cold]
     pub fn unexpected(self, expected: Expected) -> Unexpected
-        ensures { result ≡ refused expected self.entry }
+        ensures { result ≡ unexpected_here expected self.entry }
     {
         self.document.stop(self.at, expected).error()
     }
 
     // The result of an accessor, or the error that a value of this kind was expected.
     #[inline(always)]
-    fn or_refused<T>(self, value: Option<T>, kind: ValueType) -> Result<T, Unexpected>
-        ensures { result ≡ ok_or value (refused (Kind kind) self.entry) }
+    fn or_unexpected<T>(self, value: Option<T>, kind: ValueType) -> Result<T, Unexpected>
+        ensures { result ≡ ok_or value (unexpected_here (Kind kind) self.entry) }
     {
         match value {
             Some(value) => Ok(value),
@@ -51,7 +52,7 @@ impl<'d> Value<'d> {
     pub fn try_as_bool(self) -> Result<bool, Unexpected>
         ensures { result ≡ tried accessors.bool self.entry }
     {
-        self.or_refused(self.as_bool(), ValueType::Bool)
+        self.or_unexpected(self.as_bool(), ValueType::Bool)
     }
 
     /// Returns the integer, if it fits `i64`, else an error that expects `I64`.
@@ -59,7 +60,7 @@ impl<'d> Value<'d> {
     pub fn try_as_i64(self) -> Result<i64, Unexpected>
         ensures { result ≡ tried accessors.i64 self.entry }
     {
-        self.or_refused(self.as_i64(), ValueType::I64)
+        self.or_unexpected(self.as_i64(), ValueType::I64)
     }
 
     /// Returns the integer, if it fits `u64`, else an error that expects `U64`.
@@ -67,7 +68,7 @@ impl<'d> Value<'d> {
     pub fn try_as_u64(self) -> Result<u64, Unexpected>
         ensures { result ≡ tried accessors.u64 self.entry }
     {
-        self.or_refused(self.as_u64(), ValueType::U64)
+        self.or_unexpected(self.as_u64(), ValueType::U64)
     }
 
     /// Returns the literal of a number with a fraction or an exponent, as it is written, or an
@@ -76,7 +77,7 @@ impl<'d> Value<'d> {
     pub fn try_as_decimal(self) -> Result<&'d str, Unexpected>
         ensures { ok_map (λ s. s.now) result ≡ tried accessors.decimal self.entry }
     {
-        self.or_refused(self.as_decimal(), ValueType::Decimal)
+        self.or_unexpected(self.as_decimal(), ValueType::Decimal)
     }
 
     /// Returns the string, if it has no escape, else an error that expects `PlainString`, or
@@ -84,7 +85,7 @@ impl<'d> Value<'d> {
     #[inline(always)]
     pub fn try_as_str(self) -> Result<&'d str, Unexpected>
         ensures { MatchResult result (λ s. as_standing accessors.str self.entry ≡ Some s.now)
-            (λ e. (e ≡ refused (string_wanted (form self.entry)) self.entry)
+            (λ e. (e ≡ unexpected_here (string_wanted (form self.entry)) self.entry)
             × ((as_standing accessors.str self.entry ≡ None) ⊎ HasEscape self.entry)) }
     {
         match self.as_str() {

@@ -173,7 +173,7 @@ impl From<AllocError> for Error {
 
     ghost from_gives = { λ _ e. e ≡ whole_fault OutOfMemory };
 
-    fn from(_refused: AllocError) -> Error {
+    fn from(_failed: AllocError) -> Error {
         Error::generic(ErrorType::OutOfMemory)
     }
 }
@@ -185,7 +185,7 @@ impl<T: Drop> From<AllocFailed<T>> for Error {
 
     ghost from_gives = { λ _ e. e ≡ whole_fault OutOfMemory };
 
-    fn from(_refused: AllocFailed<T>) -> Error {
+    fn from(_failed: AllocFailed<T>) -> Error {
         Error::from(AllocError)
     }
 }

@@ -10,7 +10,8 @@ use Rattle.simd_json_print.specs.declared.document.growing.Growing.{Growing}
 abbrev pub state : ℕ → ℕ → List ℕ → Bool → TargetState
 state name capacity items has_failed = record { held = Some (name ∷ capacity ∷ items); failed = Some has_failed }
 
-pub record IsAppended {E A : Type 0} (r : Result Unit E) (name capacity : ℕ) (old : List ℕ) (new : Growing A) (bytes : List ℕ) : Type 0 where
+pub record IsAppended {E A : Type 0} (r : Result Unit E) (name capacity : ℕ) (old : List ℕ) (new : Growing A) (bytes : List ℕ)
+    : Type 0 where
   pub same : name ≡ new.list.ghost_name
   pub kept : IsPrefix old new.list.now.items
   pub all : OnOk r (new.list.now.items ≡ old ++ bytes)

@@ -15,6 +15,6 @@ late_has_memory (Err (Mismatch m)) late = late
 late_has_memory (Err (Parse e)) late = absurd late
 
 -- the error of a parse that had memory
-pub refused_has_memory : {T : Type 0} → (r : Result T ParseError) (e : ParseError) → r ≡ Err e → HasMemory (result_err r) →
+pub rejected_has_memory : {T : Type 0} → (r : Result T ParseError) (e : ParseError) → r ≡ Err e → HasMemory (result_err r) →
     IsOutOfMemory e → ⊥
-refused_has_memory r e is has lacks = has (ap result_err is ∙ ap Some lacks)
+rejected_has_memory r e is has lacks = has (ap result_err is ∙ ap Some lacks)

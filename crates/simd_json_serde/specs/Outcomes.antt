@@ -4,7 +4,7 @@ use Rattle.simd_json_parts.specs.Document.{Document}
 use Rattle.simd_json_parts.specs.Grammar.{Denotes}
 use Rattle.simd_json_parts.specs.Limits.{WithinLimits}
 use Rattle.simd_json_check.specs.Capacities.{IsOutOfMemory}
-use Rattle.simd_json.specs.Parsed.{IsRefused}
+use Rattle.simd_json.specs.Parsed.{IsRejected}
 use Rattle.simd_json_serde.specs.declared.error.Error.{Error}
 use Rattle.simd_json_serde.specs.declared.error.Error.TheVariants.{Parse, Mismatch}
 
@@ -16,7 +16,7 @@ IsDocument b limit = (d : Document) × Denotes b d × WithinLimits b d limit
 abbrev pub IsRead : {T : Type 0} → List ℕ → ℕ → Result T Error → Type 0
 IsRead b limit (Ok value) = IsDocument b limit
 IsRead b limit (Err (Mismatch m)) = IsDocument b limit
-IsRead b limit (Err (Parse e)) = IsRefused b limit e ⊎ IsOutOfMemory e
+IsRead b limit (Err (Parse e)) = IsRejected b limit e ⊎ IsOutOfMemory e
 
 -- not an error of a parse
 abbrev pub IsLate : {T : Type 0} → Result T Error → Type 0

@@ -46,15 +46,15 @@ impl<const PRETTY: u8> TextWriter<PRETTY> {
     }
 
     // Only an object can be flattened.
-    fn refuse_flat(&self) -> Result<(), WriteError> {
+    fn reject_flat(&self) -> Result<(), WriteError> {
         if self.flattens {
             return Err(WriteError::Misplaced);
         }
         Ok(())
     }
 
-    fn refuse_key(&self) -> Result<(), WriteError> {
-        self.refuse_flat()?;
+    fn reject_key(&self) -> Result<(), WriteError> {
+        self.reject_flat()?;
         if self.at_key {
             return Err(WriteError::KeyKind);
         }
@@ -62,7 +62,7 @@ impl<const PRETTY: u8> TextWriter<PRETTY> {
     }
 
     fn cased_name(&mut self, name: &str, case: Case, kind: NameKind) -> Result<(), WriteError> {
-        self.refuse_flat()?;
+        self.reject_flat()?;
         self.room.clear();
         case.append(kind, name, &mut self.room)?;
         self.draft.put_name(self.room.as_str())
@@ -73,49 +73,49 @@ impl<const PRETTY: u8> Serializer for TextWriter<PRETTY> {
     type Error = WriteError;
 
     fn bool(&mut self, v: bool) -> Result<(), WriteError> {
-        self.refuse_flat()?;
+        self.reject_flat()?;
         self.draft.set_bool(v, self.at_key)
     }
 
     fn i64(&mut self, v: i64) -> Result<(), WriteError> {
-        self.refuse_flat()?;
+        self.reject_flat()?;
         self.draft.set_i64(v, self.at_key)
     }
 
     fn u64(&mut self, v: u64) -> Result<(), WriteError> {
-        self.refuse_flat()?;
+        self.reject_flat()?;
         self.draft.set_u64(v, self.at_key)
     }
 
     fn i128(&mut self, v: i128) -> Result<(), WriteError> {
-        self.refuse_flat()?;
+        self.reject_flat()?;
         self.draft.set_i128(v, self.at_key)
     }
 
     fn u128(&mut self, v: u128) -> Result<(), WriteError> {
-        self.refuse_flat()?;
+        self.reject_flat()?;
         self.draft.set_u128(v, self.at_key)
     }
 
     fn f32(&mut self, v: f32) -> Result<(), WriteError> {
-        self.refuse_flat()?;
+        self.reject_flat()?;
         self.draft.set_f32(v, self.at_key)
     }
 
     fn f64(&mut self, v: f64) -> Result<(), WriteError> {
-        self.refuse_flat()?;
+        self.reject_flat()?;
         self.draft.set_f64(v, self.at_key)
     }
 
     fn char(&mut self, v: char) -> Result<(), WriteError> {
-        self.refuse_flat()?;
+        self.reject_flat()?;
         self.room.clear();
         self.room.push(v)?;
         self.draft.set_string(self.room.as_str(), self.at_key)
     }
 
     fn str(&mut self, v: &str) -> Result<(), WriteError> {
-        self.refuse_flat()?;
+        self.reject_flat()?;
         self.draft.set_string(v, self.at_key)
     }
 
@@ -133,24 +133,24 @@ impl<const PRETTY: u8> Serializer for TextWriter<PRETTY> {
             self.flattens = false;
             return Ok(());
         }
-        self.refuse_key()?;
+        self.reject_key()?;
         self.draft.put_null()
     }
 
     fn str_cased(&mut self, name: &str, case: Case) -> Result<(), WriteError> {
-        self.refuse_flat()?;
+        self.reject_flat()?;
         self.room.clear();
         case.append(NameKind::Variant, name, &mut self.room)?;
         self.draft.set_string(self.room.as_str(), self.at_key)
     }
 
     fn begin_seq(&mut self, _len: Option<usize>) -> Result<(), WriteError> {
-        self.refuse_key()?;
+        self.reject_key()?;
         self.draft.begin_array()
     }
 
     fn end_seq(&mut self) -> Result<(), WriteError> {
-        self.refuse_key()?;
+        self.reject_key()?;
         self.draft.end_array()
     }
 
@@ -160,12 +160,12 @@ impl<const PRETTY: u8> Serializer for TextWriter<PRETTY> {
             self.flat.extend_from_slice(&[self.draft.containers.len()])?;
             return Ok(());
         }
-        self.refuse_key()?;
+        self.reject_key()?;
         self.draft.begin_object()
     }
 
     fn end_map(&mut self) -> Result<(), WriteError> {
-        self.refuse_key()?;
+        self.reject_key()?;
         if self.flat.last() == Some(&self.draft.containers.len()) {
             self.flat.pop();
             return Ok(());
@@ -182,7 +182,7 @@ impl<const PRETTY: u8> Serializer for TextWriter<PRETTY> {
     }
 
     fn begin_key(&mut self) -> Result<(), WriteError> {
-        self.refuse_key()?;
+        self.reject_key()?;
         self.at_key = true;
         Ok(())
     }
@@ -202,7 +202,7 @@ impl<const PRETTY: u8> Serializer for TextWriter<PRETTY> {
     }
 
     fn collect_str<T: Display>(&mut self, value: &T) -> Result<(), WriteError> {
-        self.refuse_flat()?;
+        self.reject_flat()?;
         self.room.clear();
         if write!(self.room, "{value}").is_err() {
             return Err(WriteError::OutOfMemory);

@@ -3,7 +3,7 @@ pub mod Steps
 pub mod Holding
 pub mod Bounds
 pub mod BuildingSteps
-pub mod Refusing
+pub mod Rejecting
 pub mod Following
 pub mod BetweenBlocks
 pub mod EscapesPassed

@@ -14,7 +14,7 @@ use Rattle.simd_json_parts.specs.declared.error.ErrorType.{ErrorType}
 use Rattle.simd_json_parts.specs.declared.error.ErrorType.TheVariants.{Syntax}
 use Rattle.simd_json_parts.specs.declared.node.Node.{Node}
 use Rattle.simd_json_stages.specs.Continued.{Open, in_array, in_object, elements_onto, members_onto, after_value, at_value, at_name}
-use Rattle.simd_json_stages.specs.Refusals.{error_type}
+use Rattle.simd_json_stages.specs.Rejections.{error_type}
 use Rattle.simd_json_stages.specs.declared.stage2.stack.Container.{Container}
 use Rattle.simd_json_stages.specs.declared.stage2.stack.Container.TheVariants.{Array, Object}
 use Rattle.simd_json_stages.specs.declared.stage2.progress.Progress.{Progress}

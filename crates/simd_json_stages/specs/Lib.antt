@@ -19,4 +19,4 @@ pub mod Building
 pub mod Progresses
 pub mod Members
 pub mod Put
-pub mod Refusals
+pub mod Rejections

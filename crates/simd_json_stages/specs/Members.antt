@@ -6,7 +6,7 @@ use Rattle.simd_json_parts.specs.Nodes.{Item}
 use Rattle.simd_json_stages.specs.Building.{closer, AtValue, AtName, AfterValue, IsBuilt, IsFirstFault}
 use Rattle.simd_json_stages.specs.NodesEnough.{nodes_enough}
 use Rattle.simd_json_stages.specs.Progresses.{IsOnRoute, IsRead, IsBefore, IsAfter}
-use Rattle.simd_json_stages.specs.Refusals.{error_type}
+use Rattle.simd_json_stages.specs.Rejections.{error_type}
 use Rattle.simd_json_stages.specs.Inputs.{Reads}
 use Rattle.simd_json_stages.specs.declared.stage2.machine.Machine.{Machine}
 use Rattle.simd_json_stages.specs.declared.stage2.progress.Route.{Route}
@@ -121,4 +121,4 @@ IsFault b r f = IsFirstFault b r.indexes.now r.max_depth f
 pub record IsTape (b ps : List ℕ) (limit : ℕ) (nodes : List Item) (r : Result (Unit {0}) Fault) : Type 0 where
   pub few : OnOk r (2 * length nodes ≤ length ps + 1)
   pub built : OnOk r (IsBuilt b ps limit nodes)
-  pub refused : IfErr r (IsFirstFault b ps limit)
+  pub rejected : IfErr r (IsFirstFault b ps limit)

@@ -30,7 +30,7 @@ ghost use Rattle.simd_json_parts.specs.Descent.{descent};
 ghost use Rattle.simd_json_stages.specs.Building.{IsWritten};
 ghost use Rattle.simd_json_stages.specs.NodesEnough.{nodes_enough};
 ghost use Rattle.simd_json_stages.specs.Progresses.{IsForCopy};
-ghost use Rattle.simd_json_stages.specs.Refusals.{IsTokenFault};
+ghost use Rattle.simd_json_stages.specs.Rejections.{IsTokenFault};
 ghost use Rattle.simd_json_stages.specs.Scans.{IsScanOf};
 
 mod fault;
@@ -104,7 +104,7 @@ pub fn build_tape<'de, K: Original, S: NodeSink<'de>>(
     ensures few { OnOk result
         (length (S.held_nodes sink.new) ≤ length scanned.entry.structural_indexes.now) }
     ensures built { OnOk result (IsWritten K.bytes max_depth (S.held_nodes sink.new)) }
-    ensures refused { IfErr result (λ e. IsTokenFault e × (descent K.bytes max_depth ≡ Err e)) }
+    ensures rejected { IfErr result (λ e. IsTokenFault e × (descent K.bytes max_depth ≡ Err e)) }
 {
     let depth = scanned.structural_indexes.len().min(max_depth);
     let stack = stack_for(stack, few, depth);

@@ -92,7 +92,7 @@ pub fn turns_are_enough()
 /// Each error has a named kind: one of four for the whole input, at index 0 and without a
 /// character, or one of fourteen for a token, with a character. In the padded form padding may be
 /// lacking too.
-pub fn refusals_are_of_named_kinds()
+pub fn rejections_are_of_named_kinds()
     ensures input { (b : List ℕ) (e : Error) → input_fault b ≡ Some e → IsOfInput e }
     ensures token { (b : List ℕ) (limit : ℕ) (e : Error) → descent b limit ≡ Err e → IsOfToken e }
     ensures either { (b : List ℕ) (limit : ℕ) (e : Error) → answer b limit ≡ Err e
@@ -167,7 +167,7 @@ pub fn documents_are_compared_node_by_node()
 pub fn accessors_agree<T>()
     ensures value { (t : Accessor T) (d : Document) (x : T)
         → (try_as_t t d ≡ Ok x) ↔ (as_t t d ≡ Some x) }
-    ensures refused { (t : Accessor T) (d : Document) → as_t t d ≡ None
+    ensures rejected { (t : Accessor T) (d : Document) → as_t t d ≡ None
         → try_as_t t d ≡ Err (mismatch t.expected d) }
     ensures at_key { (t : Accessor T) (key : List ℕ) (d : Document) (x : T)
         → (try_get_t t key d ≡ Ok (Some x)) ↔ (get_t t key d ≡ Some x) }

@@ -44,7 +44,7 @@ fn escapes_are_borrowed_by_ours_alone(rt: HostRuntime) -> Result<(), Fail> {
 }
 
 #[test]
-fn refused_texts_have_no_sum(rt: HostRuntime) -> Result<(), Fail> {
+fn rejected_texts_have_no_sum(rt: HostRuntime) -> Result<(), Fail> {
     assert_sums(&rt, rt.alloc(), b"[1,]", 0, [NONE; 4])?;
     assert_sums(&rt, rt.alloc(), b"{\"statuses\":1}", 1, [NONE; 4])
 }

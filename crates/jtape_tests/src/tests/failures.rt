@@ -7,11 +7,11 @@ use std::io;
 // Each way to end, its line on standard error, and its status.
 #[test]
 fn ends_have_lines_and_statuses(rt: HostRuntime) -> Tested {
-    let refused = Error::new(3, Some(']'), ErrorType::InternalError);
+    let rejected = Error::new(3, Some(']'), ErrorType::InternalError);
     let rows = [
         (Failure::Usage, "usage: jtape MODE [DEPTH]", 2),
         (
-            Failure::Run(RunFault::Refused(refused)),
+            Failure::Run(RunFault::Refused(rejected)),
             "InternalError at character 3 (']')",
             1,
         ),

@@ -13,7 +13,7 @@ const LONG: &[u8] = b"[1,\"\\n\",[2,3,4],5,6,7,8,9,10,11,12,13,14,15,16,1.5]";
 // An allocation of the input, of the structural indexes and the tape, or of the output fails, and
 // nothing is written.
 #[test]
-fn each_growth_is_refused(rt: HostRuntime) -> Tested {
+fn each_growth_fails(rt: HostRuntime) -> Tested {
     let rows: [(Mode, &[u8], &[u8]); 4] = [
         (
             Mode::Tape,
@@ -29,8 +29,8 @@ fn each_growth_is_refused(rt: HostRuntime) -> Tested {
         ),
     ];
     for (mode, start, end) in rows {
-        let (refused, printed) = run_in_heaps(&rt, mode, start, end)?;
-        assert!(rt; refused > 20, "{refused:?}");
+        let (failed, printed) = run_in_heaps(&rt, mode, start, end)?;
+        assert!(rt; failed > 20, "{failed:?}");
         assert!(rt; printed > 20, "{printed:?}");
     }
     Ok(())
@@ -47,7 +47,7 @@ fn run_in_heaps(
     start: &[u8],
     end: &[u8],
 ) -> std::result::Result<(u32, u32), Fail> {
-    let (mut refused, mut printed) = (0u32, 0u32);
+    let (mut failed, mut printed) = (0u32, 0u32);
     for units in 0..200usize {
         let heap = LocalHeap::new(rt.alloc(), HEAP)?;
         let left = 128 + units * 32;
@@ -56,14 +56,14 @@ fn run_in_heaps(
         if assert_whole_or_silent(rt, run_slowly(rt, mode, &heap), start, end) {
             printed = printed.saturating_add(1);
         } else {
-            refused = refused.saturating_add(1);
+            failed = failed.saturating_add(1);
         }
         assert_eq!(rt; heap.used(), used);
         drop(others);
         let again = run_slowly(rt, mode, &heap);
         assert!(rt; assert_whole_or_silent(rt, again, start, end));
     }
-    Ok((refused, printed))
+    Ok((failed, printed))
 }
 
 fn run_slowly<'i>(rt: &impl AllocGlobal, mode: Mode, heap: &LocalHeap) -> Ran<Slow<'i>, Vec<u8>> {
@@ -109,7 +109,7 @@ fn lists_that_cannot_grow_hold_a_beginning(rt: HostRuntime) -> Tested {
     }
     input.pop();
     input.push(b']')?;
-    let (mut refused, mut begun, mut written) = (0u32, 0u32, 0u32);
+    let (mut failed, mut begun, mut written) = (0u32, 0u32, 0u32);
     for units in 0..20usize {
         let heap = LocalHeap::new(rt.alloc(), 96 + units * 40_000)?;
         let held = Vec::from_slice(&heap, b"so far\n")?;
@@ -127,11 +127,11 @@ fn lists_that_cannot_grow_hold_a_beginning(rt: HostRuntime) -> Tested {
         } else {
             assert_eq!(rt; ran.answer, Err(RunFault::Write));
             assert!(rt; out.starts_with(b"so far\n") && lines.starts_with(out.as_slice()));
-            refused = refused.saturating_add(1);
+            failed = failed.saturating_add(1);
             begun = begun.saturating_add(if out.len() > 7 { 1 } else { 0 });
         }
     }
-    assert!(rt; refused > 3, "{refused:?}");
+    assert!(rt; failed > 3, "{failed:?}");
     assert!(rt; begun > 3, "{begun:?}");
     assert!(rt; written > 3, "{written:?}");
     Ok(())

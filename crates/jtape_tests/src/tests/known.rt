@@ -62,7 +62,7 @@ lines 1 @ [[]]␊[1]␊ @ ! DepthLimitExceeded at character 1 ('[')␊[1]␊
 lines 1 @ [[]]␊[] @ ! DepthLimitExceeded at character 1 ('[')␊[]␊"#;
 
 // A line for each input that every mode rejects: the depth limit, the input, and its error.
-const REFUSED: &str = r#"0 @ [] @ DepthLimitExceeded at character 0 ('[')
+const REJECTED: &str = r#"0 @ [] @ DepthLimitExceeded at character 0 ('[')
 1 @ [[]] @ DepthLimitExceeded at character 1 ('[')
 1024 @ x "a @ Syntax at character 0
 1024 @ [1 @ Syntax at character 1 ('1')
@@ -187,7 +187,7 @@ fn blanks_are_no_documents(rt: HostRuntime) -> Tested {
     let rows: [&[u8]; 2] = [b"", b" \t\r\n"];
     for input in rows {
         for mode in OF_DOCUMENTS {
-            assert_refused(&rt, mode, 1024, input, "Eof at character 0")?;
+            assert_rejected(&rt, mode, 1024, input, "Eof at character 0")?;
         }
     }
     let rows: [&[u8]; 4] = [b"", b"\n", b" \t\r\n\n \n\t", b"\n  \n \n\n"];
@@ -198,7 +198,7 @@ fn blanks_are_no_documents(rt: HostRuntime) -> Tested {
 }
 
 // In mode `lines` the error is a line.
-fn assert_refused(
+fn assert_rejected(
     rt: &(impl AllocGlobal + Abort),
     mode: Mode,
     depth: usize,
@@ -224,29 +224,29 @@ fn assert_refused(
     Ok(())
 }
 
-fn assert_refused_by_all(
+fn assert_rejected_by_all(
     rt: &(impl AllocGlobal + Abort),
     depth: usize,
     input: &[u8],
     error: &str,
 ) -> Tested {
     for mode in ALL {
-        assert_refused(rt, mode, depth, input, error)?;
+        assert_rejected(rt, mode, depth, input, error)?;
     }
     Ok(())
 }
 
 #[test]
-fn known_inputs_are_refused(rt: HostRuntime) -> Tested {
-    for line in REFUSED.lines() {
+fn known_inputs_are_rejected(rt: HostRuntime) -> Tested {
+    for line in REJECTED.lines() {
         let (depth, row) = line.split_once(" @ ").expect(&rt, "it has a limit");
         let (input, error) = row.split_once(" @ ").expect(&rt, "it has both");
-        assert_refused_by_all(&rt, depth.parse()?, input.as_bytes(), error)?;
+        assert_rejected_by_all(&rt, depth.parse()?, input.as_bytes(), error)?;
     }
     let rows: [&[u8]; 2] = [b"[\xff]", b"[\"\xff"];
     for input in rows {
-        assert_refused_by_all(&rt, 1024, input, "InvalidUtf8 at character 0")?;
+        assert_rejected_by_all(&rt, 1024, input, "InvalidUtf8 at character 0")?;
     }
     let marked = b"\xef\xbb\xbf1";
-    assert_refused_by_all(&rt, 1024, marked, "InternalError at character 0 ('\u{ef}')")
+    assert_rejected_by_all(&rt, 1024, marked, "InternalError at character 0 ('\u{ef}')")
 }

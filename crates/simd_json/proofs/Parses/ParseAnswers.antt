@@ -14,7 +14,7 @@ use Rattle.simd_json_parts.specs.declared.error.Error.{Error}
 use Rattle.simd_json_parts.specs.declared.error.ErrorType.TheVariants.{OutOfMemory}
 use Rattle.simd_json_check.specs.Capacities.{IsOutOfMemory, LacksMemory}
 use Rattle.simd_json.specs.Parsed.{HasMemory}
-use Rattle.simd_json.specs.Parsed.{IsParse, IsPaddedParse, IsRefused, answered_nodes, positions_after}
+use Rattle.simd_json.specs.Parsed.{IsParse, IsPaddedParse, IsRejected, answered_nodes, positions_after}
 use Rattle.simd_json.proofs.Parses.ParseEnds.{input-character, input-memory, token-memory}
 
 abbrev AsAnswered : List ℕ → ℕ → Option Error → List Item → List ℕ → Type 0
@@ -27,10 +27,10 @@ pub as-answered : (b : List ℕ) (limit capacity : ℕ) (fault : Option Error) (
 as-answered b limit capacity None nodes listed p memory =
     let is = p.parsed.answered in
     (ap result_err (sym is), p.parsed.listed ∙ ap answered_nodes (sym is), p.found ∙ ap (λ r. positions_after b (result_err r)) (sym is))
-as-answered b limit capacity (Some e) nodes listed p memory = by_cause p.refused where
-  by_cause : IsRefused b limit e ⊎ (LacksMemory b e × (capacity < length b)) → AsAnswered b limit (Some e) nodes listed
-  by_cause (inl refused) =
-      let is = refused.answered in
+as-answered b limit capacity (Some e) nodes listed p memory = by_cause p.rejected where
+  by_cause : IsRejected b limit e ⊎ (LacksMemory b e × (capacity < length b)) → AsAnswered b limit (Some e) nodes listed
+  by_cause (inl rejected) =
+      let is = rejected.answered in
       (ap result_err (sym is), p.empty ∙ ap answered_nodes (sym is), p.found ∙ ap (λ r. positions_after b (result_err r)) (sym is))
   by_cause (inr (lacks, short)) = absurd (memory (ap Some lacks.0))
 
@@ -56,18 +56,18 @@ some-same e f is = ap error_in is where
   error_in None = e
   error_in (Some x) = x
 
-refused-memory : (b : List ℕ) (e : Error) → IsOutOfMemory e
+rejected-memory : (b : List ℕ) (e : Error) → IsOutOfMemory e
     → ((input_fault b ≡ Some e) × IsOfInput e) ⊎ ((input_fault b ≡ None) × IsOfToken e) → ⊥
-refused-memory b e lacks (inl (is, named)) = input-memory e named lacks
-refused-memory b e lacks (inr (none, named)) = token-memory e named lacks
+rejected-memory b e lacks (inl (is, named)) = input-memory e named lacks
+rejected-memory b e lacks (inr (none, named)) = token-memory e named lacks
 
 -- where there is capacity for so many bytes if they are not too many
 pub has-capped-memory : (b : List ℕ) (limit capacity : ℕ) (fault : Option Error) (nodes : List Item) (listed : List ℕ)
     → IsParse b limit capacity fault nodes listed → (length b ≤ max_length → length b ≤ capacity) → HasMemory fault
 has-capped-memory b limit capacity None nodes listed p enough is = none-some _ is
-has-capped-memory b limit capacity (Some e) nodes listed p enough is = by_cause p.refused where
-  by_cause : IsRefused b limit e ⊎ (LacksMemory b e × (capacity < length b)) → ⊥
-  by_cause (inl refused) = refused-memory b e (some-same e (whole_fault OutOfMemory) is) refused.kinds
+has-capped-memory b limit capacity (Some e) nodes listed p enough is = by_cause p.rejected where
+  by_cause : IsRejected b limit e ⊎ (LacksMemory b e × (capacity < length b)) → ⊥
+  by_cause (inl rejected) = rejected-memory b e (some-same e (whole_fault OutOfMemory) is) rejected.kinds
   by_cause (inr (lacks, short)) = omega (arith, short, enough lacks.1)
 
 pub has-memory : (b : List ℕ) (limit capacity : ℕ) (fault : Option Error) (nodes : List Item) (listed : List ℕ)

@@ -19,15 +19,15 @@ use Rattle.simd_json_parts.specs.Nodes.{Item}
 use Rattle.simd_json_parts.specs.Positions.{positions}
 use Rattle.simd_json_parts.specs.declared.error.Error.{Error}
 use Rattle.simd_json_check.specs.Capacities.{IsOutOfMemory, LacksMemory}
-use Rattle.simd_json.specs.Parsed.{IsParse, IsParsed, IsRefused, written}
+use Rattle.simd_json.specs.Parsed.{IsParse, IsParsed, IsRejected, written}
 use Rattle.simd_json.specs.Capacities.{KeepsCapacities, Capacities, capacity}
 use Rattle.simd_json_check.specs.Capacities as lists
 use Rattle.simd_json.specs.Reserved.{bytes_listed}
 use Rattle.simd_json_stages.specs.Building.{IsWritten}
 use Rattle.simd_json_stages.specs.NodesEnough.{nodes_enough}
-use Rattle.simd_json_stages.specs.Refusals.{IsTokenFault}
+use Rattle.simd_json_stages.specs.Rejections.{IsTokenFault}
 use Rattle.simd_json.specs.Tapes.{IsTape}
-use Rattle.simd_json.proofs.Parses.ParseLaws.{few-positions, refused-token, refused-whole, tape-parsed, written-parsed}
+use Rattle.simd_json.proofs.Parses.ParseLaws.{few-positions, rejected-token, rejected-whole, tape-parsed, written-parsed}
 
 -- ---- what a fault carries
 
@@ -59,13 +59,13 @@ parsed-some b limit nodes p none = listing-some p.document (sym p.listed ∙ non
 
 pub parse-done : (b : List ℕ) (limit capacity : ℕ) (nodes : List Item) → IsParsed b limit nodes
     → length nodes ≤ length (positions b) → IsParse b limit capacity None nodes (positions b)
-parse-done b limit capacity nodes p l = record { parsed = p; refused = tt; empty = tt; found = refl; few = (l, few-positions b) }
+parse-done b limit capacity nodes p l = record { parsed = p; rejected = tt; empty = tt; found = refl; few = (l, few-positions b) }
 
-pub parse-token : (b : List ℕ) (limit capacity : ℕ) (e : Error) → IsRefused b limit e → IsOfToken e
+pub parse-token : (b : List ℕ) (limit capacity : ℕ) (e : Error) → IsRejected b limit e → IsOfToken e
     → IsParse b limit capacity (Some e) [] (positions b)
-parse-token b limit capacity e refused token = record {
+parse-token b limit capacity e rejected token = record {
   parsed = tt;
-  refused = inl refused;
+  rejected = inl rejected;
   empty = refl;
   found = ap (λ t. cond t (positions b) []) (sym token.1);
   few = (omega arith, few-positions b);
@@ -74,7 +74,7 @@ parse-token b limit capacity e refused token = record {
 pub parse-whole : (b : List ℕ) (limit capacity : ℕ) (e : Error) → input_fault b ≡ Some e → IsParse b limit capacity (Some e) [] []
 parse-whole b limit capacity e is = record {
   parsed = tt;
-  refused = inl (refused-whole b limit e is);
+  rejected = inl (rejected-whole b limit e is);
   empty = refl;
   found = ap (λ t. cond t (positions b) []) (sym (input-character e (input-fault b e is)));
   few = (omega arith, few-positions b);
@@ -84,7 +84,7 @@ pub parse-lacking : (b : List ℕ) (limit capacity : ℕ) (e : Error) → LacksM
     → IsParse b limit capacity (Some e) [] []
 parse-lacking b limit capacity e lacks l = record {
   parsed = tt;
-  refused = inr (lacks, l);
+  rejected = inr (lacks, l);
   empty = refl;
   found = ap (λ x. cond (is_some x.character) (positions b) []) (sym lacks.0);
   few = (omega arith, few-positions b);
@@ -107,7 +107,7 @@ pub on-err : {A E : Type 0} (r : Result A E) (P : Type 0) → P → OnErr r P
 on-err (Ok x) P p = tt
 on-err (Err e) P p = p
 
--- nothing is listed, and there is no node, where the first stage refuses, or a list has no capacity
+-- nothing is listed, and there is no node, where the first stage rejects, or a list has no capacity
 pub parse-unread : {A : Type 0} (r : Result A Error) (b : List ℕ) (limit least capacity : ℕ) (e : Error) (nodes : List Item)
     (listed : List ℕ) → IsErrAnd r (λ x. x ≡ e) → nodes ≡ [] → listed ≡ [] → least ≤ capacity
     → (input_fault b ≡ Some e) ⊎ (LacksMemory b e × (capacity < length b)) → IsParse b limit least (result_err r) nodes listed
@@ -150,12 +150,12 @@ pub parse-written : (r : Result (Unit {0}) Error) (b : List ℕ) (limit capacity
     → input_fault b ≡ None → OnOk r (IsWritten b limit nodes) → OnOk r (length nodes ≤ length (positions b))
     → IfErr r (λ e. IsTokenFault e × (descent b limit ≡ Err e)) → listed ≡ positions b
     → IsParse b limit capacity (result_err r) (written r nodes) listed
-parse-written (Ok x) b limit capacity nodes listed none built few refused l =
+parse-written (Ok x) b limit capacity nodes listed none built few rejected l =
     parse-at None None nodes nodes (positions b) listed refl refl l
     (parse-done b limit capacity nodes (written-parsed b limit nodes none built) few)
-parse-written (Err e) b limit capacity nodes listed none built few refused l =
+parse-written (Err e) b limit capacity nodes listed none built few rejected l =
     parse-at (Some e) (Some e) [] [] (positions b) listed refl refl l
-    (parse-token b limit capacity e (refused-token b limit e none refused.1) (token-fault b limit e refused.1))
+    (parse-token b limit capacity e (rejected-token b limit e none rejected.1) (token-fault b limit e rejected.1))
 
 pub unwritten : (r : Result (Unit {0}) Error) (e : Error) (nodes : List Item) → IsErrAnd r (λ x. x ≡ e) → written r nodes ≡ []
 unwritten (Ok x) e nodes is = absurd is

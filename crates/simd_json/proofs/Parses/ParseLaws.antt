@@ -22,7 +22,7 @@ use Rattle.simd_json_parts.specs.Listing.{listing}
 use Rattle.simd_json_parts.specs.Nodes.{Item, item_of}
 use Rattle.simd_json_parts.specs.declared.node.Node.{Node}
 use Rattle.simd_json_stages.specs.Building.{IsListed, IsWritten}
-use Rattle.simd_json.specs.Parsed.{IsParsed, IsRefused}
+use Rattle.simd_json.specs.Parsed.{IsParsed, IsRejected}
 use Rattle.simd_json.specs.Tapes.{IsTape}
 use Rattle.simd_json_parts.specs.InputFaults.{input_fault}
 use Rattle.simd_json_parts.specs.Positions.{positions, is_position}
@@ -52,7 +52,7 @@ few-positions b = omega (
   length-range_with_len 0 (length b),
 )
 
--- ---- refusals
+-- ---- rejections
 
 not-both : (d : Document) (e : Error) → Ok d ≡ Err e → ⊥
 not-both d e is = false≢true (ap is_err is)
@@ -66,9 +66,9 @@ one-error {A} r f e first is = ap error_in (sym first ∙ is) where
 not-answered : (b : List ℕ) (limit : ℕ) (e : Error) → answer b limit ≡ Err e → (d : Document) → Denotes b d → WithinLimits b d limit → ⊥
 not-answered b limit e is d denoted within = not-both d e (sym (answer-Denotes b d limit denoted within) ∙ is)
 
--- what the second stage refuses
-pub refused-token : (b : List ℕ) (limit : ℕ) (e : Error) → input_fault b ≡ None → descent b limit ≡ Err e → IsRefused b limit e
-refused-token b limit e none is =
+-- what the second stage rejects
+pub rejected-token : (b : List ℕ) (limit : ℕ) (e : Error) → input_fault b ≡ None → descent b limit ≡ Err e → IsRejected b limit e
+rejected-token b limit e none is =
     let answered = none-answered b limit none ∙ is in
     let reported = fault-reported b limit e none is in record {
       answered = answered;
@@ -86,9 +86,9 @@ input-expected errors.Syntax is = refl
 input-expected errors.Eof is = refl
 input-expected _ is = absurd (false≢true is)
 
--- what the first stage refuses, or the tests before it
-pub refused-whole : (b : List ℕ) (limit : ℕ) (e : Error) → input_fault b ≡ Some e → IsRefused b limit e
-refused-whole b limit e is =
+-- what the first stage rejects, or the tests before it
+pub rejected-whole : (b : List ℕ) (limit : ℕ) (e : Error) → input_fault b ≡ Some e → IsRejected b limit e
+rejected-whole b limit e is =
     let answered = fault-answered b limit e is in
     let of_input = input-fault b e is in record {
       answered = answered;
@@ -99,16 +99,16 @@ refused-whole b limit e is =
     }
 
 -- what the definitions reject
-pub refused : (b : List ℕ) (limit : ℕ) (e : Error) → answer b limit ≡ Err e → IsRefused b limit e
-refused b limit e is = by_whole (input_fault b) refl where
-  by_whole : (o : Option Error) → input_fault b ≡ o → IsRefused b limit e
-  by_whole None none = refused-token b limit e none (sym (none-answered b limit none) ∙ is)
+pub rejected : (b : List ℕ) (limit : ℕ) (e : Error) → answer b limit ≡ Err e → IsRejected b limit e
+rejected b limit e is = by_whole (input_fault b) refl where
+  by_whole : (o : Option Error) → input_fault b ≡ o → IsRejected b limit e
+  by_whole None none = rejected-token b limit e none (sym (none-answered b limit none) ∙ is)
   by_whole (Some f) some =
-      subst (IsRefused b limit) (one-error (answer b limit) f e (fault-answered b limit f some) is) (refused-whole b limit f some)
+      subst (IsRejected b limit) (one-error (answer b limit) f e (fault-answered b limit f some) is) (rejected-whole b limit f some)
 
-pub refused-or : {A : Type 0} (b : List ℕ) (limit : ℕ) (e : Error) → (answer b limit ≡ Err e) ⊎ A → IsRefused b limit e ⊎ A
-refused-or b limit e (inl is) = inl (refused b limit e is)
-refused-or b limit e (inr other) = inr other
+pub rejected-or : {A : Type 0} (b : List ℕ) (limit : ℕ) (e : Error) → (answer b limit ≡ Err e) ⊎ A → IsRejected b limit e ⊎ A
+rejected-or b limit e (inl is) = inl (rejected b limit e is)
+rejected-or b limit e (inr other) = inr other
 
 -- where it is not said for how much there was capacity
 pub memory-lacking : {A B C : Type 0} → A ⊎ (B × C) → A ⊎ B

@@ -90,7 +90,8 @@ module _ (b : List ℕ) (i : ℕ) (escaped inside : Bool) (l : i < length b) (s 
 
 -- ---- tokens
 
--- a token begins with the byte c, and one ends with it: by whether it is a real quote, whether it is inside, and whether the byte before ends one
+-- a token begins with the byte c, and one ends with it: by whether it is a real quote, whether it is inside, and whether the byte
+-- before ends one
 abbrev pub begins : ℕ → Bool → Bool → Bool → Bool
 begins c quoted inside fresh =
     (quoted && inside) || ((not inside && not quoted) && (is_structural c || (not (is_whitespace c) && fresh)))

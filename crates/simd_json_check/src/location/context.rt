@@ -1,7 +1,8 @@
 //! The reason of an error, from the bytes around it.
 ghost use Rattle.std.specs.Prelude.{◌≡◌, drop, if◌then◌else◌};
 ghost use Rattle.simd_json_check.specs.Locations.{bad_string, is_control_inside};
-ghost use Rattle.simd_json_check.specs.Reasons.{byte_before, closes_root, ends_range, expects_value};
+ghost use Rattle.simd_json_check.specs.Reasons.{byte_before, closes_root, ends_range};
+ghost use Rattle.simd_json_check.specs.Reasons.{expects_value};
 ghost use Rattle.simd_json_check.specs.Reasons.{has_hex_digits, is_byte_order_mark, object_reason};
 ghost use Rattle.simd_json_check.specs.Reasons.{reason_of};
 ghost use Rattle.simd_json_check.specs.Reasons.{token_reason, value_reason, whole_reason};

@@ -2,7 +2,8 @@
 ghost use Rattle.std.specs.Prelude.{◌≡◌, ◌-◌, not, length};
 ghost use Rattle.std.specs.List.{suffix_len};
 ghost use Rattle.std.specs.Str.Lossy.{utf8_valid_len};
-ghost use Rattle.simd_json_check.specs.Locations.{begins_character, column_of, is_line_feed, line_of};
+ghost use Rattle.simd_json_check.specs.Locations.{begins_character, column_of, is_line_feed};
+ghost use Rattle.simd_json_check.specs.Locations.{line_of};
 ghost use Rattle.simd_json_check.specs.Locations.{place_of, whole_place};
 
 use super::scan::bad_string;

@@ -58,7 +58,7 @@ fn list_of_capacity(alloc: Global, capacity: usize) -> Result<Vec<u64>> {
 }
 
 #[test]
-fn reports_a_refused_growth(rt: HostRuntime) {
+fn reports_a_failed_growth(rt: HostRuntime) {
     assert!(rt; list_of_capacity(rt.alloc(), 3).is_ok());
     match list_of_capacity(rt.alloc(), usize::MAX) {
         Ok(_) => panic!(rt; "more than there is"),

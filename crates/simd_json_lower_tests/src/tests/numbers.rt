@@ -100,7 +100,7 @@ fn numbers_are_read(rt: HostRuntime) {
 
 // Of more digits than an integer has.
 #[test]
-fn long_numbers_are_refused(rt: HostRuntime) {
+fn long_numbers_are_rejected(rt: HostRuntime) {
     let mut digits = [b'9'; 10_001];
     assert_eq!(rt; parse_number(&digits[1..]), Number::Invalid(38));
     digits[0] = b'-';

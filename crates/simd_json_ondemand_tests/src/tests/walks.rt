@@ -196,7 +196,7 @@ fn walks_of_documents_do_not_stop(rt: HostRuntime) {
 }
 
 // The kind that an accessor of the value expects, where it expects another.
-fn refusals(value: Value<'_>) -> [Option<Expected>; 5] {
+fn rejections(value: Value<'_>) -> [Option<Expected>; 5] {
     [
         value.try_as_bool().err().map(|e| e.expected),
         value.try_as_i64().err().map(|e| e.expected),
@@ -207,7 +207,7 @@ fn refusals(value: Value<'_>) -> [Option<Expected>; 5] {
 }
 
 #[test]
-fn scalars_of_another_kind_are_refused(rt: HostRuntime) {
+fn scalars_of_another_kind_are_rejected(rt: HostRuntime) {
     let mut index = Index::new(rt.alloc(), 0).expect(&rt, MEMORY);
     let kinds = [
         Some(Expected::Kind(ValueType::Bool)),
@@ -230,7 +230,7 @@ fn scalars_of_another_kind_are_refused(rt: HostRuntime) {
         (b"x", kinds),
     ] {
         let root = index.find(input).expect(&rt, "it is scanned").as_value();
-        assert_eq!(rt; refusals(root), wanted, "{input:?}");
+        assert_eq!(rt; rejections(root), wanted, "{input:?}");
     }
 }
 

@@ -23,7 +23,7 @@ use Rattle.simd_json_stages.specs.Building.{closed_with, missing, whole, AtValue
 use Rattle.simd_json_stages.specs.Building.{IsBuilt, IsWritten, IsFirstFault}
 use Rattle.simd_json_stages.specs.Progresses.{IsNext}
 use Rattle.simd_json_stages.specs.Put.{IsStringPut, IsScalarPut}
-use Rattle.simd_json_stages.specs.Refusals.{error_type}
+use Rattle.simd_json_stages.specs.Rejections.{error_type}
 use Rattle.simd_json_stages.specs.declared.stage2.stack.Container.{Container}
 use Rattle.simd_json_stages.specs.declared.stage2.stack.Container.TheVariants.{Array, Object}
 use Rattle.simd_json_stages.specs.declared.stage2.progress.Progress.{Progress}
@@ -460,6 +460,6 @@ descent-built b limit nodes built =
     }
 
 -- What is reported is the descent's fault.
-pub descent-refused : (b : List ℕ) (limit : ℕ) (f : Fault) → IsFirstFault b (positions b) limit f
+pub descent-rejected : (b : List ℕ) (limit : ℕ) (f : Fault) → IsFirstFault b (positions b) limit f
     → descent b limit ≡ Err (fault_with (error_type f.kind) f.index f.byte)
-descent-refused b limit f refused = sym (whole-descent b limit) ∙ refused
+descent-rejected b limit f rejected = sym (whole-descent b limit) ∙ rejected

@@ -5,7 +5,7 @@ use Rattle.simd_json_parts.specs.Positions.{positions}
 use Rattle.simd_json_parts.specs.Nodes.{Item}
 use Rattle.simd_json_stages.specs.Building.{top, AfterValue, AtMember, AtMemberOf}
 use Rattle.simd_json_stages.specs.Members.{HasCapacity, AtFirst, IsAtMember, IsAtMemberOf}
-use Rattle.simd_json_stages.specs.Refusals.{error_type}
+use Rattle.simd_json_stages.specs.Rejections.{error_type}
 use Rattle.simd_json_stages.specs.Progresses.{IsOnRoute, IsRead, IsNext, IsBefore, IsAfter}
 use Rattle.simd_json_stages.specs.Inputs.{Reads}
 use Rattle.simd_json_stages.specs.declared.stage2.input.Input.{Input}

@@ -1,4 +1,4 @@
--- A scalar that becomes a node, or is refused: a decimal's literal is UTF-8 and ends inside the input, and a fault is of no scalar.
+-- A scalar that becomes a node, or is rejected: a decimal's literal is UTF-8 and ends inside the input, and a fault is of no scalar.
 use Rattle.std.proofs.Common.{◌≡◌, ◌≢◌, refl, sym, ◌∙◌, ap, ap₂, subst, ℕ, ◌+◌, ◌<◌, ◌≤◌, inl, inr, List, [], ◌∷◌, ◌++◌, length, get_or}
 use Rattle.std.proofs.Common.{take, drop, true, false, ◌||◌, ◌&&◌, ◌==◌, nat_eq, nat_le, nat_lt, arith}
 use Rattle.std.specs.Prelude.{Option, Some, None, Result, Ok, Err, IfOk, IsUtf8, codes, if◌then◌else◌}
@@ -30,7 +30,7 @@ use Rattle.simd_json_stages.specs.Inputs.{HasString, Reads}
 use Rattle.simd_json_stages.specs.Put.{AtNumber, IsScalarPut, IsNoScalar}
 use Rattle.simd_json_stages.specs.declared.stage2.input.Input.{Input}
 use Rattle.simd_json_stages.specs.declared.stage2.progress.Progress.{Progress}
-use Rattle.simd_json_stages.specs.Refusals.{error_type, refused_kind, number_refusal}
+use Rattle.simd_json_stages.specs.Rejections.{error_type, rejected_kind, number_rejection}
 use Rattle.simd_json_parts.specs.declared.node.StaticNode.{StaticNode}
 use Rattle.simd_json_stages.specs.declared.stage2.fault.Fault.{Fault}
 use Rattle.simd_json_stages.specs.declared.stage2.fault.FaultKind.{FaultKind}
@@ -159,27 +159,27 @@ static-put d s end input is listed put =
       input = inl input;
     }
 
--- ---- a refusal
+-- ---- a rejection
 
 -- a number's lies inside the input
 pub offset-within : (b : List ℕ) (i offset : ℕ) → i ≤ length b → number_at b i ≡ Err (fault_at b InvalidNumber (i + offset))
     → offset ≤ length (drop i b)
 offset-within b i offset l is = omega (arith, length-drop i b, number_at-within b i (fault_at b InvalidNumber (i + offset)) l is)
 
-pub number-refused : (b : List ℕ) (i offset : ℕ) (f : Fault) → form_at b i ≡ scalar (number_at b i)
+pub number-rejected : (b : List ℕ) (i offset : ℕ) (f : Fault) → form_at b i ≡ scalar (number_at b i)
     → number_at b i ≡ Err (fault_at b InvalidNumber (i + offset))
-    → f ≡ number_refusal b (i + offset) → IsNoScalar b i f
-number-refused b i offset f form is same = subst (IsNoScalar b i) (sym same) (inl (form ∙ ap scalar is))
+    → f ≡ number_rejection b (i + offset) → IsNoScalar b i f
+number-rejected b i offset f form is same = subst (IsNoScalar b i) (sym same) (inl (form ∙ ap scalar is))
 
 -- an atom's, or that of a token that begins no value
-pub atom-refused : (b : List ℕ) (i c : ℕ) (f : Fault) → f ≡ record { kind = refused_kind c; index = i; byte = c } → c ≡ byte_at b i
-    → form_at b i ≡ scalar (Err (fault_at b (error_type (refused_kind c)) i)) → IsNoScalar b i f
-atom-refused b i c f same e is = subst (IsNoScalar b i) (sym same)
-    (inl (is ∙ ap (λ x. scalar (Err (fault_with (error_type (refused_kind c)) i x))) (sym e)))
+pub atom-rejected : (b : List ℕ) (i c : ℕ) (f : Fault) → f ≡ record { kind = rejected_kind c; index = i; byte = c } → c ≡ byte_at b i
+    → form_at b i ≡ scalar (Err (fault_at b (error_type (rejected_kind c)) i)) → IsNoScalar b i f
+atom-rejected b i c f same e is = subst (IsNoScalar b i) (sym same)
+    (inl (is ∙ ap (λ x. scalar (Err (fault_with (error_type (rejected_kind c)) i x))) (sym e)))
 
-pub none-refused : (b : List ℕ) (i c : ℕ) (f : Fault) → f ≡ record { kind = refused_kind c; index = i; byte = c } → c ≡ byte_at b i
-    → refused_kind c ≡ kinds.InternalError → is_no_scalar (form_at b i) ≡ true → c ≢ 34 → c ≢ 91 → c ≢ 123 → IsNoScalar b i f
-none-refused b i c f same e kind none no_string no_array no_object =
+pub none-rejected : (b : List ℕ) (i c : ℕ) (f : Fault) → f ≡ record { kind = rejected_kind c; index = i; byte = c } → c ≡ byte_at b i
+    → rejected_kind c ≡ kinds.InternalError → is_no_scalar (form_at b i) ≡ true → c ≢ 34 → c ≢ 91 → c ≢ 123 → IsNoScalar b i f
+none-rejected b i c f same e kind none no_string no_array no_object =
     inr (
       no_value b i none (λ h. no_string (e ∙ h)) (λ h. no_array (e ∙ h)) (λ h. no_object (e ∙ h)),
       same ∙ ap₂ (λ (k : FaultKind) (x : ℕ). let f : Fault = record { kind = k; index = i; byte = x } in f) kind e,

@@ -219,7 +219,7 @@ module _ (b : List ℕ) (missing : Error) (limit : ℕ) where
   unfolding after_value
   after_value-root d ts = refl
 
-  -- ---- refusals: no token is left, or one that is not accepted
+  -- ---- rejections: no token is left, or one that is not accepted
 
   pub at_value-missing : (open_containers : List Open) → at_value b missing limit open_containers [] ≡ Err missing
   unfolding value_from
@@ -240,15 +240,15 @@ module _ (b : List ℕ) (missing : Error) (limit : ℕ) where
   pub at_value-unexpected : (open_containers : List Open) (t : Token) (ts : List Token) (form : Form) → t.form ≡ form
       → begins_value form ≡ false → at_value b missing limit open_containers (t ∷ ts) ≡ Err (fault_at b InternalError t.index)
   at_value-unexpected open_containers t ts form is none = at_value-plain open_containers t ts form
-      (Err (fault_at b InternalError t.index)) is (λ arrays objects. refused arrays objects form none)
+      (Err (fault_at b InternalError t.index)) is (λ arrays objects. rejected arrays objects form none)
     where
-      refused : (arrays : Token → Reads Elements) (objects : Token → Reads Members) (form : Form) → begins_value form ≡ false
+      rejected : (arrays : Token → Reads Elements) (objects : Token → Reads Members) (form : Form) → begins_value form ≡ false
           → value_of b missing arrays objects t form ts ≡ Err (fault_at b InternalError t.index)
-      refused arrays objects begin_array h = cc
-      refused arrays objects begin_object h = cc
-      refused arrays objects (string_token read) h = cc
-      refused arrays objects (scalar read) h = cc
-      refused arrays objects _ h = refl
+      rejected arrays objects begin_array h = cc
+      rejected arrays objects begin_object h = cc
+      rejected arrays objects (string_token read) h = cc
+      rejected arrays objects (scalar read) h = cc
+      rejected arrays objects _ h = refl
 
 -- ---- either container
 
@@ -293,24 +293,24 @@ module _ (b : List ℕ) (missing : Error) (limit : ℕ) where
   after_value-unexpected (in_array ds) outer d t ts form is other =
       ap (λ r. r >>= λ r. after_value b missing limit outer (array (elements_onto ds (element d r.0))) r.1)
       (ap (λ form. after_element b missing t form ts (elements_by b missing
-      (value_from b missing (limit - suc (length outer))))) is ∙ refused form other)
+      (value_from b missing (limit - suc (length outer))))) is ∙ rejected form other)
     where
-      refused : (form : Form) → ends_element form ≡ false → after_element b missing t form ts
+      rejected : (form : Form) → ends_element form ≡ false → after_element b missing t form ts
           (elements_by b missing (value_from b missing (limit - suc (length outer)))) ≡ Err (fault_at b ExpectedArrayContent t.index)
-      refused value_separator h = cc
-      refused end_array h = cc
-      refused _ h = refl
+      rejected value_separator h = cc
+      rejected end_array h = cc
+      rejected _ h = refl
   after_value-unexpected (in_object ms name) outer d t ts form is other =
       ap (λ r. r >>= λ r. after_value b missing limit outer (object (members_onto ms (member name d r.0))) r.1)
       (ap (λ form. after_member b missing t form ts (members_by b missing (value_from b missing (limit - suc (length outer)))
-      ExpectedObjectKey)) is ∙ refused form other)
+      ExpectedObjectKey)) is ∙ rejected form other)
     where
-      refused : (form : Form) → ends_member form ≡ false → after_member b missing t form ts
+      rejected : (form : Form) → ends_member form ≡ false → after_member b missing t form ts
           (members_by b missing (value_from b missing (limit - suc (length outer))) ExpectedObjectKey) ≡ Err
           (fault_at b ExpectedObjectContent t.index)
-      refused value_separator h = cc
-      refused end_object h = cc
-      refused _ h = refl
+      rejected value_separator h = cc
+      rejected end_object h = cc
+      rejected _ h = refl
 
   -- ---- objects
 
@@ -370,11 +370,11 @@ module _ (b : List ℕ) (missing : Error) (limit : ℕ) where
       (form : Form) → t.form ≡ form → is_string form ≡ false
       → at_name b missing limit kind ms outer (t ∷ ts) ≡ Err (fault_at b kind t.index)
   at_name-other kind ms outer t ts form is other = at_name-form kind ms outer t ts form is
-      ∙ ap (λ r. r >>= λ name. rest_after_name ms outer (name.0, ts)) (refused form other)
+      ∙ ap (λ r. r >>= λ name. rest_after_name ms outer (name.0, ts)) (rejected form other)
     where
-      refused : (form : Form) → is_string form ≡ false → name_of b missing kind t form ≡ Err (fault_at b kind t.index)
-      refused (string_token read) h = cc
-      refused _ h = refl
+      rejected : (form : Form) → is_string form ≡ false → name_of b missing kind t form ≡ Err (fault_at b kind t.index)
+      rejected (string_token read) h = cc
+      rejected _ h = refl
 
   pub at_name-fault : (kind : ErrorType) (ms : List (List ℕ × Document)) (outer : List Open) (t : Token) (ts : List Token)
       (e : Error) → t.form ≡ string_token (Err e)
@@ -392,12 +392,12 @@ module _ (b : List ℕ) (missing : Error) (limit : ℕ) where
   at_name-no_colon kind ms outer t u ts name end form is colon other =
       at_name-form kind ms outer t (u ∷ ts) (string_token (Ok (name, end))) is
       ∙ ap (λ r. r >>= λ us. at_value b missing limit (in_object ms name ∷ outer) us)
-      (ap (λ form. after_name b missing u form ts) colon ∙ refused form other)
+      (ap (λ form. after_name b missing u form ts) colon ∙ rejected form other)
     where
-      refused : (form : Form) → is_name_separator form ≡ false
+      rejected : (form : Form) → is_name_separator form ≡ false
           → after_name b missing u form ts ≡ Err (fault_at b ExpectedObjectColon u.index)
-      refused name_separator h = cc
-      refused _ h = refl
+      rejected name_separator h = cc
+      rejected _ h = refl
 
   -- a comma after a member
   pub after_value-member_comma : (ms : List (List ℕ × Document)) (name : List ℕ) (outer : List Open) (d : Document) (t : Token)

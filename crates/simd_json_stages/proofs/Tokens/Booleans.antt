@@ -9,11 +9,11 @@ use Rattle.simd_json_parts.specs.Bytes.{byte_at, is_terminator}
 use Rattle.simd_json_parts.specs.Document.{boolean}
 use Rattle.simd_json_parts.specs.Tokens.{scalar, form_at}
 use Rattle.simd_json_stages.specs.Put.{is_boolean, IsNoScalar}
-use Rattle.simd_json_stages.specs.Refusals.{refused_kind}
+use Rattle.simd_json_stages.specs.Rejections.{rejected_kind}
 use Rattle.simd_json_stages.specs.declared.stage2.fault.Fault.{Fault}
 use Rattle.simd_json_stages.proofs.Tokens.ScalarLaws.{byte_at-after, word_true, word_false, form_at-word, form_at-true, form_at-false}
-use Rattle.simd_json_stages.proofs.Tokens.ScalarLaws.{form_at-no_scalar, refused_kind-other}
-use Rattle.simd_json_stages.proofs.Machine.ScalarPut.{atom-refused, none-refused}
+use Rattle.simd_json_stages.proofs.Tokens.ScalarLaws.{form_at-no_scalar, rejected_kind-other}
+use Rattle.simd_json_stages.proofs.Machine.ScalarPut.{atom-rejected, none-rejected}
 
 -- ---- by its letters
 
@@ -125,16 +125,16 @@ form_at-boolean false b rest i e h =
 -- where no boolean is, and no other scalar may be
 pub no_boolean : (b rest : List ℕ) (i c : ℕ) → drop i b ≡ rest → c ≡ byte_at b i
     → (is_boolean true rest ≡ false) × (is_boolean false rest ≡ false) → nat_eq c 110 ≡ false
-    → ((c == 45) || is_ascii_digit c) ≡ false → (f : Fault) → f ≡ record { kind = refused_kind c; index = i; byte = c }
+    → ((c == 45) || is_ascii_digit c) ≡ false → (f : Fault) → f ≡ record { kind = rejected_kind c; index = i; byte = c }
     → c ≢ 34 → c ≢ 91 → c ≢ 123 → IsNoScalar b i f
 no_boolean b rest i c e first neither null number f same string array object =
     elim (cases_Bool (nat_eq c 116)) [
       | inl t ↦ let is : c ≡ 116 = eqb-true c 116 t in
-          atom-refused b i c f same first (rw is (form_at-word word_true false b rest i e (sym first ∙ is) neither.0))
+          atom-rejected b i c f same first (rw is (form_at-word word_true false b rest i e (sym first ∙ is) neither.0))
       | inr t ↦ elim (cases_Bool (nat_eq c 102)) [
         | inl u ↦ let is : c ≡ 102 = eqb-true c 102 u in
-            atom-refused b i c f same first (rw is (form_at-word word_false false b rest i e (sym first ∙ is) neither.1))
-        | inr u ↦ none-refused b i c f same first (refused_kind-other c t u null)
+            atom-rejected b i c f same first (rw is (form_at-word word_false false b rest i e (sym first ∙ is) neither.1))
+        | inr u ↦ none-rejected b i c f same first (rejected_kind-other c t u null)
             (form_at-no_scalar b i c (sym first) t u null number) string array object
       ]
     ]

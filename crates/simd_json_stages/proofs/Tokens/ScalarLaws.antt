@@ -19,7 +19,7 @@ use Rattle.simd_json_parts.specs.declared.error.Error.{Error}
 use Rattle.simd_json_parts.specs.Tokens.{Form, begin_array, end_array, begin_object, end_object, name_separator, value_separator}
 use Rattle.simd_json_parts.specs.Tokens.{string_token, scalar, stray, form_of, form_at}
 use Rattle.simd_json_parts.specs.StringAt.{string_at}
-use Rattle.simd_json_stages.specs.Refusals.{refused_kind}
+use Rattle.simd_json_stages.specs.Rejections.{rejected_kind}
 use Rattle.simd_json_stages.specs.declared.stage2.fault.FaultKind.TheVariants as kinds
 use Rattle.simd_json_parts.specs.declared.error.ErrorType.{ErrorType}
 use Rattle.simd_json_parts.specs.declared.error.ErrorType.TheVariants.{ExpectedTrue, ExpectedFalse, ExpectedNull, InvalidNumber}
@@ -95,8 +95,9 @@ abbrev pub is_no_scalar : Form → Bool
 is_no_scalar (scalar read) = false
 is_no_scalar _ = true
 
-pub refused_kind-other : (c : ℕ) → nat_eq c 116 ≡ false → nat_eq c 102 ≡ false → nat_eq c 110 ≡ false → refused_kind c ≡ kinds.InternalError
-refused_kind-other c t f n = simp (t, f, n)
+pub rejected_kind-other : (c : ℕ) → nat_eq c 116 ≡ false → nat_eq c 102 ≡ false → nat_eq c 110 ≡ false
+    → rejected_kind c ≡ kinds.InternalError
+rejected_kind-other c t f n = simp (t, f, n)
 
 -- another byte than begins an atom or a number
 pub form_at-no_scalar : (b : List ℕ) (i c : ℕ) → byte_at b i ≡ c → nat_eq c 116 ≡ false → nat_eq c 102 ≡ false
@@ -164,25 +165,25 @@ number_between-within : (b literal : List ℕ) (i end bound : ℕ) (e : Error) �
 number_between-within b literal i end bound e l k h = go (matches number_literal literal && is_terminator (byte_at b end))
     (matches integer_literal literal) h
   where
-    refused : (j : ℕ) → j ≤ bound → (let r : Result (Document × ℕ) Error = Err (fault_at b InvalidNumber j) in r ≡ Err e) → e.index ≤ bound
-    refused j m same = let is : fault_at b InvalidNumber j ≡ e = cc in subst (λ (f : Error). f.index ≤ bound) is m
+    rejected : (j : ℕ) → j ≤ bound → (let r : Result (Document × ℕ) Error = Err (fault_at b InvalidNumber j) in r ≡ Err e) → e.index ≤ bound
+    rejected j m same = let is : fault_at b InvalidNumber j ≡ e = cc in subst (λ (f : Error). f.index ≤ bound) is m
 
     range : (t : Bool) → (let read : Result (Document × ℕ) Error = Ok (integer (has_minus literal) (magnitude literal), end) in
         (if t then Err (fault_at b InvalidNumber end) else read) ≡ Err e) → e.index ≤ bound
-    range true same = refused end l same
+    range true same = rejected end l same
     range false same = cc
 
     excess : (o : Option ℕ) → first_excess literal ≡ o → integer_or b i literal end o ≡ Err e → e.index ≤ bound
     excess None is same = range (nat_lt (max_magnitude (has_minus literal)) (magnitude literal)) same
     excess (Some j) is same =
-        let below : j < 0 + length literal = found-below _ 0 (length literal) j is in refused (i + j) (omega arith) same
+        let below : j < 0 + length literal = found-below _ 0 (length literal) j is in rejected (i + j) (omega arith) same
 
     go : (t u : Bool) → (let read : Result (Document × ℕ) Error = Ok (decimal literal, end) in
         (if t then (if u then integer_or b i literal end (first_excess literal) else read) else Err
         (fault_at b InvalidNumber end)) ≡ Err e) → e.index ≤ bound
     go true true same = excess (first_excess literal) refl same
     go true false same = cc
-    go false u same = refused end l same
+    go false u same = rejected end l same
 
 pub number_at-within : (b : List ℕ) (i : ℕ) (e : Error) → i ≤ length b → number_at b i ≡ Err e → e.index ≤ length b
 unfolding number_at

@@ -5,7 +5,7 @@
 //! the first stage, and are not faults.
 ghost use Rattle.std.specs.Prelude.{◌≡◌};
 ghost use Rattle.simd_json_parts.specs.Faults.{fault_with};
-ghost use Rattle.simd_json_stages.specs.Refusals.{error_type};
+ghost use Rattle.simd_json_stages.specs.Rejections.{error_type};
 
 use simd_json_parts::error::{Error, ErrorType};
 

@@ -59,7 +59,7 @@ impl<'de> Machine<'_, 'de> {
             (S.node_room nodes.new) (S.held_nodes nodes.new)) }
         ensures advances { IfOk result (λ q. (p.read < q.read) × (q.depth ≡ p.depth)
             × (q.container ≡ p.container)) }
-        ensures refused { IfErr result (IsFault K.bytes route.entry) }
+        ensures rejected { IfErr result (IsFault K.bytes route.entry) }
     {
         if p.byte != b'"' {
             return Err(p.fault(kind));
@@ -91,7 +91,7 @@ impl<'de> Machine<'_, 'de> {
         ensures came { IfOk result (HasCome K.bytes route.entry self.new
             (S.node_room nodes.new) (S.held_nodes nodes.new)) }
         ensures advances { IfOk result (AdvancesPastValue p) }
-        ensures refused { IfErr result (IsFault K.bytes route.entry) }
+        ensures rejected { IfErr result (IsFault K.bytes route.entry) }
     {
         if p.depth == route.max_depth {
             return Err(p.fault(FaultKind::DepthLimitExceeded));
@@ -134,7 +134,7 @@ impl<'de> Machine<'_, 'de> {
         ensures came { IfOk result (HasCome K.bytes route.entry self.new
             (S.node_room nodes.new) (S.held_nodes nodes.new)) }
         ensures advances { IfOk result (AdvancesPastValue p) }
-        ensures refused { IfErr result (IsFault K.bytes route.entry) }
+        ensures rejected { IfErr result (IsFault K.bytes route.entry) }
     {
         if p.byte == b'{' {
             return self.open::<K, S>(route, nodes, p, Container::Object);
@@ -169,7 +169,7 @@ impl<'de> Machine<'_, 'de> {
         ensures advances { IfOk result (AdvancesPastMember p) }
         ensures followed { IfOk result (HasFollowed K.bytes route.entry self.now
             (S.node_room nodes.new) (S.held_nodes nodes.new)) }
-        ensures refused { IfErr result (IsFault K.bytes route.entry) }
+        ensures rejected { IfErr result (IsFault K.bytes route.entry) }
     {
         let q = p.next_token(&self.input, route)?;
         if q.byte == b',' {
@@ -196,7 +196,7 @@ impl<'de> Machine<'_, 'de> {
         ensures member { IfOk result (IsAtMember K.bytes route.entry self.now
             (S.node_room nodes.new) (S.held_nodes nodes.new)) }
         ensures further { IfOk result (IsFrom (reached value).read) }
-        ensures refused { IfErr result (IsFault K.bytes route.entry) }
+        ensures rejected { IfErr result (IsFault K.bytes route.entry) }
     {
         let mut p = match value {
             Step::Opened(p) => return Ok(NextMember::Next(p, FaultKind::ExpectedObjectContent)),
@@ -235,7 +235,7 @@ impl<'de> Machine<'_, 'de> {
         ensures came { IfOk result (HasCome K.bytes route.entry self.new
             (S.node_room nodes.new) (S.held_nodes nodes.new)) }
         ensures further { IfOk result (λ value. first.read < (reached value).read) }
-        ensures refused { IfErr result (IsFault K.bytes route.entry) }
+        ensures rejected { IfErr result (IsFault K.bytes route.entry) }
     {
         let mut p = first;
         'values: loop {
@@ -267,7 +267,7 @@ impl<'de> Machine<'_, 'de> {
         ensures came { IfOk result (HasCome K.bytes route.entry self.new
             (S.node_room nodes.new) (S.held_nodes nodes.new)) }
         ensures further { IfOk result (λ value. first.read < (reached value).read) }
-        ensures refused { IfErr result (IsFault K.bytes route.entry) }
+        ensures rejected { IfErr result (IsFault K.bytes route.entry) }
     {
         let mut p = first;
         let mut kind = kind;

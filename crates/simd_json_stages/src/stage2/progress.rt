@@ -43,9 +43,9 @@ impl Route<'_> {
 }
 
 // How far the machine is. A word and two bytes are first, as in `Fault`: a `Result` of both shares
-// registers. The word is `read`, and not an index, which is loaded from 32 bits: in a `Result` of an
-// enum that holds this, the compiler takes the first word apart, and can put together again only
-// what it has as a whole.
+// registers. The word is `read`, and not an index, which is loaded from 32 bits: in a `Result` of
+// an enum that holds this, the compiler takes the first word apart, and can put together again
+// only what it has as a whole.
 #[derive(Clone, Copy, Drop)]
 pub(crate) struct Progress {
     // how many structural indexes were read: the place of the next one in the list

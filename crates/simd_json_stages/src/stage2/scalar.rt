@@ -21,7 +21,7 @@ ghost use Rattle.simd_json_scalars.specs.declared.numberparse.Number.TheVariants
 ghost use Rattle.simd_json_stages.specs.Members.{AtString};
 ghost use Rattle.simd_json_stages.specs.Put.{is_boolean, AtNumber, AtOther, IsBadString};
 ghost use Rattle.simd_json_stages.specs.Put.{IsNoScalar, IsScalarPut, IsStringPut, SameSink};
-ghost use Rattle.simd_json_stages.specs.Refusals.{error_type, refused_kind, number_refusal};
+ghost use Rattle.simd_json_stages.specs.Rejections.{error_type, rejected_kind, number_rejection};
 ghost use Rattle.simd_json_stages.specs.Inputs.{Reads};
 
 use super::fault::{Fault, FaultKind};
@@ -85,7 +85,7 @@ pub(super) fn push_string<'de, K: Original, S: NodeSink<'de>>(
     ensures put { OnOk result
         (IsStringPut K.bytes p.at (S.held_nodes nodes.old) (S.held_nodes nodes.new)
         (Reads K.bytes input.new)) }
-    ensures refused { IfErr result (IsBadString K.bytes p.at) }
+    ensures rejected { IfErr result (IsBadString K.bytes p.at) }
 {
     let next = route.position_or_end(p.read, input.end);
     let may_have_escape = input.may_have_escape(p.at, next);
@@ -133,7 +133,7 @@ pub(super) fn push_scalar<'de, K: Original, S: NodeSink<'de>>(
     ensures put { OnOk result
         (IsScalarPut K.bytes p.at (S.held_nodes nodes.old) (S.held_nodes nodes.new)
         (Reads K.bytes input.new)) }
-    ensures refused { IfErr result (IsNoScalar K.bytes p.at) }
+    ensures rejected { IfErr result (IsNoScalar K.bytes p.at) }
 {
     if is_integer(p.byte) || p.byte == b'-' {
         return push_number::<K, S>(input, nodes, p);
@@ -201,7 +201,7 @@ fn parse_last_boolean(bytes: &[u8]) -> Option<bool>
 // The fault of a token that is not a scalar, by its first byte.
 #[cold]
 fn no_scalar(at: usize, byte: u8) -> Fault
-    ensures { result ≡ record { kind = refused_kind byte; index = at; byte = byte } }
+    ensures { result ≡ record { kind = rejected_kind byte; index = at; byte = byte } }
 {
     let kind = match byte {
         b't' => FaultKind::ExpectedTrue,
@@ -230,7 +230,7 @@ fn push_number<'de, K: Original, S: NodeSink<'de>>(
     ensures put { OnOk result
         (IsScalarPut K.bytes p.at (S.held_nodes nodes.old) (S.held_nodes nodes.new)
         (Reads K.bytes input.new)) }
-    ensures refused { IfErr result (IsNoScalar K.bytes p.at) }
+    ensures rejected { IfErr result (IsNoScalar K.bytes p.at) }
 {
     let rest = input.from(p.at);
     let numeral = match parse_short(rest) {
@@ -261,7 +261,7 @@ fn read_long(rest: &[u8], at: usize, len: usize) -> Result<StaticNode, Fault>
     requires fits { at + length rest.now < 2 ^ 64 }
     ensures { (b : List ℕ) → drop at b ≡ rest.now → at ≤ length b → MatchResult result
         (λ node. IsNumberAt b at (Integer node len)) (λ f. (offset : ℕ)
-        × IsNumberAt b at (Invalid offset) × (f ≡ number_refusal b (at + offset))) }
+        × IsNumberAt b at (Invalid offset) × (f ≡ number_rejection b (at + offset))) }
 {
     match parse_long(rest, len) {
         Ok(node) => Ok(node),
@@ -275,7 +275,7 @@ fn read_long(rest: &[u8], at: usize, len: usize) -> Result<StaticNode, Fault>
 fn invalid_number(rest: &[u8], at: usize, offset: usize) -> Fault
     requires { at + length rest.now < 2 ^ 64 }
     ensures { (b : List ℕ) → drop at b ≡ rest.now → offset ≤ length rest.now
-        → result ≡ number_refusal b (at + offset) }
+        → result ≡ number_rejection b (at + offset) }
 {
     let offset = offset.min(rest.len());
     Fault {

@@ -69,7 +69,7 @@ where
 {
     match number {
         Ok(number) => Ok(i128::from(number)),
-        Err(refusal) => Err(refusal),
+        Err(rejection) => Err(rejection),
     }
 }
 
@@ -81,7 +81,7 @@ where
 {
     match number {
         Ok(number) => Ok(widened(number)),
-        Err(refusal) => Err(refusal),
+        Err(rejection) => Err(rejection),
     }
 }
 
@@ -182,11 +182,11 @@ fn assert_each(
     let tried = try_as_each(&value);
     let tried_keyed = try_get_each(document, k);
     for (i, expected) in EXPECTED.iter().enumerate() {
-        let refusal = TryTypeError {
+        let rejection = TryTypeError {
             expected: *expected,
             got,
         };
-        let answer = wanted[i].ok_or(refusal);
+        let answer = wanted[i].ok_or(rejection);
         assert_eq!(rt; tried[i], answer, "{k:?}");
         assert_eq!(rt; tried_keyed[i], answer.map(Some), "{k:?}");
     }
@@ -196,12 +196,12 @@ fn assert_each(
 fn assert_missing(rt: &impl Abort, document: &Value<'_, '_>, member: &Value<'_, '_>) {
     assert_eq!(rt; get_each(document, "missing"), NONE);
     assert_eq!(rt; try_get_each(document, "missing"), [Ok(None); 11]);
-    let refusal = TryTypeError {
+    let rejection = TryTypeError {
         expected: ValueType::Object,
         got: member.value_type(),
     };
     assert_eq!(rt; get_each(member, "k"), NONE);
-    assert_eq!(rt; try_get_each(member, "k"), [Err(refusal); 11]);
+    assert_eq!(rt; try_get_each(member, "k"), [Err(rejection); 11]);
 }
 
 // The number, where there are at least as many bits as it takes.
@@ -456,35 +456,35 @@ type Tried<T> = std::result::Result<T, TryTypeError>;
 fn tried_array_len(array: Tried<Array<'_, '_>>) -> Tried<usize> {
     match array {
         Ok(array) => Ok(array.len()),
-        Err(refusal) => Err(refusal),
+        Err(rejection) => Err(rejection),
     }
 }
 
 fn keyed_array_len(array: Tried<Option<Array<'_, '_>>>) -> Tried<Option<usize>> {
     match array {
         Ok(array) => Ok(array_len(array)),
-        Err(refusal) => Err(refusal),
+        Err(rejection) => Err(rejection),
     }
 }
 
 fn tried_object_len(object: Tried<Object<'_, '_>>) -> Tried<usize> {
     match object {
         Ok(object) => Ok(object.len()),
-        Err(refusal) => Err(refusal),
+        Err(rejection) => Err(rejection),
     }
 }
 
 fn keyed_object_len(object: Tried<Option<Object<'_, '_>>>) -> Tried<Option<usize>> {
     match object {
         Ok(object) => Ok(object_len(object)),
-        Err(refusal) => Err(refusal),
+        Err(rejection) => Err(rejection),
     }
 }
 
 fn is_there(member: Tried<Option<Value<'_, '_>>>) -> Tried<bool> {
     match member {
         Ok(member) => Ok(member.is_some()),
-        Err(refusal) => Err(refusal),
+        Err(rejection) => Err(rejection),
     }
 }
 

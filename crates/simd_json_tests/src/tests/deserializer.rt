@@ -59,9 +59,9 @@ fn tapes_are_handed_on(rt: HostRuntime) -> Tested {
 }
 
 // An input, the printed text of its error, and the class of that: io, eof, syntax or data.
-type Refused = (&'static [u8], &'static str, [bool; 4]);
+type Rejected = (&'static [u8], &'static str, [bool; 4]);
 
-const REFUSED: [Refused; 6] = [
+const REJECTED: [Rejected; 6] = [
     (b"", "Eof at character 0", [false, true, false, false]),
     (
         b" \t\r\n",
@@ -90,7 +90,7 @@ const REFUSED: [Refused; 6] = [
     ),
 ];
 
-fn assert_refused(rt: &(impl AllocGlobal + Abort), row: &Refused) -> Tested {
+fn assert_rejected(rt: &(impl AllocGlobal + Abort), row: &Rejected) -> Tested {
     let (input, text, classes) = *row;
     let mut read = Vec::from_slice(rt.alloc(), input)?;
     let Err(e) = Deserializer::from_slice(rt.alloc(), read.as_mut_slice()) else {
@@ -106,9 +106,9 @@ fn assert_refused(rt: &(impl AllocGlobal + Abort), row: &Refused) -> Tested {
 }
 
 #[test]
-fn refusals_are_printed_and_classed(rt: HostRuntime) -> Tested {
-    for row in &REFUSED {
-        assert_refused(&rt, row)?;
+fn rejections_are_printed_and_classed(rt: HostRuntime) -> Tested {
+    for row in &REJECTED {
+        assert_rejected(&rt, row)?;
     }
     Ok(())
 }

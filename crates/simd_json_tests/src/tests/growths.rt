@@ -62,7 +62,7 @@ fn call(number: u32, heap: &LocalHeap, input: &mut [u8]) -> Result<usize> {
 
 // Whether a growth of the call fails with this many bytes left. If so, it returns `OutOfMemory`;
 // with memory the same call returns what it usually does.
-fn is_call_refused(
+fn has_call_failed(
     rt: &(impl AllocGlobal + Abort),
     number: u32,
     input: &[u8],
@@ -85,40 +85,40 @@ fn is_call_refused(
 
 // Whether an allocation of a call failed; otherwise it returned this many nodes.
 fn is_out_of_memory(rt: &impl Abort, number: u32, answer: Result<usize>, nodes: usize) -> bool {
-    let is_refused = answer.is_err();
-    let wanted = if is_refused {
+    let has_failed = answer.is_err();
+    let wanted = if has_failed {
         Err(Error::generic(ErrorType::OutOfMemory))
     } else {
         Ok(nodes)
     };
     assert_eq!(rt; answer, wanted, "{number:?}");
-    is_refused
+    has_failed
 }
 
 // Each heap leaves more free memory than the one before it, so that another growth fails, and then
 // none.
-fn refuses_growths(rt: &(impl AllocGlobal + Abort), input: &[u8]) {
+fn fails_growths(rt: &(impl AllocGlobal + Abort), input: &[u8]) {
     for number in 0..8 {
-        let mut refused = 0u32;
+        let mut failed = 0u32;
         for units in 0..200 {
-            if is_call_refused(rt, number, input, units * 16) {
-                refused = refused.saturating_add(1);
+            if has_call_failed(rt, number, input, units * 16) {
+                failed = failed.saturating_add(1);
             }
         }
-        assert!(rt; refused > 0, "{number:?}");
-        assert!(rt; refused < 200, "{number:?}");
+        assert!(rt; failed > 0, "{number:?}");
+        assert!(rt; failed < 200, "{number:?}");
     }
 }
 
 #[test]
-fn each_growth_is_refused(rt: HostRuntime) {
-    refuses_growths(&rt, b"[[1,2],[3,[4]],5,6,7,8,9]");
+fn each_growth_fails(rt: HostRuntime) {
+    fails_growths(&rt, b"[[1,2],[3,[4]],5,6,7,8,9]");
 }
 
 // The list of blocks grows too.
 #[test]
-fn each_growth_with_escapes_is_refused(rt: HostRuntime) {
-    refuses_growths(&rt, b"[[1,\"\\n\"],{\"\\u0061\":[4]},5,6,7,8,9]");
+fn each_growth_with_escapes_fails(rt: HostRuntime) {
+    fails_growths(&rt, b"[[1,\"\\n\"],{\"\\u0061\":[4]},5,6,7,8,9]");
 }
 
 // A parse over buffers and a tape of the heap, which hold another document.
@@ -158,7 +158,7 @@ fn padded(rt: &(impl AllocGlobal + Abort), input: &[u8]) -> Vec<u8> {
 // A parse after another one, with this many bytes left in the heap; whether a growth failed. Where
 // one did, nothing is listed, and the tape is empty. The same buffers and tape serve once there is
 // memory.
-fn is_refused(rt: &(impl AllocGlobal + Abort), form: u32, left: usize) -> bool {
+fn has_failed(rt: &(impl AllocGlobal + Abort), form: u32, left: usize) -> bool {
     let (mut first, mut second) = (padded(rt, b"[\"\\n\"]"), padded(rt, LARGER));
     let mut third = padded(rt, LARGER);
     let heap = LocalHeap::new(rt.alloc(), 1 << 13).expect(rt, MEMORY);
@@ -172,28 +172,28 @@ fn is_refused(rt: &(impl AllocGlobal + Abort), form: u32, left: usize) -> bool {
     let full = ballast(rt, &heap, left);
     let answer = parse(form, second.as_mut_slice(), &mut buffers, &mut tape);
     drop(full);
-    let is_refused = is_out_of_memory(rt, form, answer, 15);
-    let positions = if is_refused { 0 } else { 29 };
+    let has_failed = is_out_of_memory(rt, form, answer, 15);
+    let positions = if has_failed { 0 } else { 29 };
     assert_eq!(rt; buffers.structural_indexes().len(), positions, "{form:?}");
-    assert!(rt; !is_refused || form == 2 || tape.is_empty(), "{form:?}");
+    assert!(rt; !has_failed || form == 2 || tape.is_empty(), "{form:?}");
     let full = ballast(rt, &heap, 4096);
     let answer = parse(form, third.as_mut_slice(), &mut buffers, &mut tape);
     drop(full);
     assert_eq!(rt; answer, Ok(15), "{form:?}");
     assert_eq!(rt; buffers.structural_indexes().len(), 29, "{form:?}");
-    is_refused
+    has_failed
 }
 
 #[test]
-fn refused_parses_list_nothing(rt: HostRuntime) {
+fn failed_parses_list_nothing(rt: HostRuntime) {
     for form in 0..3 {
-        let mut refused = 0u32;
+        let mut failed = 0u32;
         for units in 0..200 {
-            if is_refused(&rt, form, units * 16) {
-                refused = refused.saturating_add(1);
+            if has_failed(&rt, form, units * 16) {
+                failed = failed.saturating_add(1);
             }
         }
-        assert!(rt; refused > 5, "{form:?}");
-        assert!(rt; refused < 195, "{form:?}");
+        assert!(rt; failed > 5, "{form:?}");
+        assert!(rt; failed < 195, "{form:?}");
     }
 }

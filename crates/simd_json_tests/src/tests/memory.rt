@@ -35,13 +35,13 @@ pub(super) fn ballast<'h>(
 
 const DOCUMENT: &[u8] = b"{\"the_answer\": 42}";
 
-const REFUSED: &[u8] = b"[[[[[[[[[[[[[[[[[[";
+const REJECTED: &[u8] = b"[[[[[[[[[[[[[[[[[[";
 
 fn alternating(rt: &(impl AllocGlobal + Abort)) -> Vec<u8> {
     let mut pieces = Vec::new(rt.alloc());
     for _ in 0..50 {
         pieces.extend_from_slice(DOCUMENT).expect(rt, MEMORY);
-        pieces.extend_from_slice(REFUSED).expect(rt, MEMORY);
+        pieces.extend_from_slice(REJECTED).expect(rt, MEMORY);
     }
     pieces
 }
@@ -52,7 +52,7 @@ fn assert_document(rt: &impl Abort, answer: &Result<()>, nodes: usize, positions
     assert_eq!(rt; positions, [0, 1, 13, 15, 17].as_slice());
 }
 
-fn assert_refused(rt: &impl Abort, answer: &Result<()>, nodes: usize, positions: &[u32]) {
+fn assert_rejected(rt: &impl Abort, answer: &Result<()>, nodes: usize, positions: &[u32]) {
     assert_eq!(rt; answer, &Err(Error::new(17, Some('['), ErrorType::Syntax)));
     assert_eq!(rt; nodes, 0);
     assert_eq!(rt; positions.len(), 18);
@@ -78,7 +78,7 @@ fn reserved_parses_take_no_memory(rt: HostRuntime) {
             assert_document(&rt, &answer, nodes, positions);
             documents = documents.saturating_add(1);
         } else {
-            assert_refused(&rt, &answer, nodes, positions);
+            assert_rejected(&rt, &answer, nodes, positions);
         }
     }
     assert_eq!(rt; documents, 50);
@@ -107,17 +107,19 @@ fn a_log_takes_no_memory(rt: HostRuntime) {
     reserve(64, &mut buffers, &mut tape).expect(&rt, MEMORY);
     let _ballast = ballast(&rt, &heap, 0);
     let used = heap.used();
-    let (mut nodes, mut refused, mut bad) = (0u32, 0u32, 0u32);
+    let (mut nodes, mut rejected, mut bad) = (0u32, 0u32, 0u32);
     for line in log.split_mut(|byte| *byte == b'\n') {
         match fill_tape(line, &mut buffers, &mut tape) {
             Ok(()) => nodes = nodes.saturating_add(tape.nodes().len() as u32),
-            Err(e) if *e.error() == ErrorType::InternalError => refused = refused.saturating_add(1),
+            Err(e) if *e.error() == ErrorType::InternalError => {
+                rejected = rejected.saturating_add(1)
+            }
             Err(e) if *e.error() == ErrorType::Syntax => bad = bad.saturating_add(1),
             Err(e) => assert_eq!(rt; e, Error::generic(ErrorType::Eof)),
         }
         assert_eq!(rt; heap.free(), 0);
     }
-    assert_eq!(rt; (nodes, refused, bad), (2_500 * (10 + 9), 2_500, 2_500));
+    assert_eq!(rt; (nodes, rejected, bad), (2_500 * (10 + 9), 2_500, 2_500));
     assert_eq!(rt; heap.used(), used);
 }
 
@@ -130,7 +132,7 @@ fn count<R: BufRead, A: Allocator, B: Allocator, C: Allocator>(
     tape: Tape<'static, C>,
 ) -> (io::Result<(usize, usize)>, Tape<'static, C>) {
     let mut kept = tape;
-    let (mut nodes, mut refused) = (0usize, 0usize);
+    let (mut nodes, mut rejected) = (0usize, 0usize);
     for _ in 0..u64::MAX {
         line.clear();
         match reader.read_until(b'\n', line) {
@@ -141,11 +143,11 @@ fn count<R: BufRead, A: Allocator, B: Allocator, C: Allocator>(
         let (answer, tape) = refill_tape(line.as_mut_slice(), buffers, kept);
         match answer {
             Ok(()) => nodes = nodes.saturating_add(tape.nodes().len()),
-            Err(_) => refused = refused.saturating_add(1),
+            Err(_) => rejected = rejected.saturating_add(1),
         }
         kept = tape.reset();
     }
-    (Ok((nodes, refused)), kept)
+    (Ok((nodes, rejected)), kept)
 }
 
 // The same as a stream through one buffer, after one reservation.
@@ -186,8 +188,8 @@ fn a_tape_is_refilled(rt: HostRuntime) {
     ];
     assert_eq!(rt; tape.nodes(), wanted.as_slice());
     assert_eq!(rt; buffers.structural_indexes(), [0, 1, 9, 10, 11].as_slice());
-    let mut refused = *b"[1,]";
-    let (answer, tape) = refill_tape(&mut refused, &mut buffers, tape);
+    let mut rejected = *b"[1,]";
+    let (answer, tape) = refill_tape(&mut rejected, &mut buffers, tape);
     assert_eq!(rt;
         answer,
         Err(Error::new(3, Some(']'), ErrorType::InternalError))
@@ -243,7 +245,7 @@ fn assert_no_memory(rt: &impl Abort, answer: Result<()>) {
 
 // A reservation that fails changes nothing that is listed.
 #[test]
-fn reservations_are_refused(rt: HostRuntime) {
+fn reservations_fail(rt: HostRuntime) {
     let mut input = *b"[1,2]";
     let heap = LocalHeap::new(rt.alloc(), 1 << 16).expect(&rt, MEMORY);
     let mut buffers = Buffers::new(&heap, 0).expect(&rt, MEMORY);

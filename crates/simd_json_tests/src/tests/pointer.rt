@@ -39,8 +39,8 @@ fn errors_are_printed_in_words(rt: HostRuntime) {
         printed.as_str(),
         "expected an array index, found an array at byte 2"
     );
-    let refused = value.try_as_u64().err().expect(&rt, "it is an object");
-    let printed = refused.to_string(rt.alloc()).expect(&rt, MEMORY);
+    let rejected = value.try_as_u64().err().expect(&rt, "it is an object");
+    let printed = rejected.to_string(rt.alloc()).expect(&rt, MEMORY);
     assert_eq!(rt;
         printed.as_str(),
         "expected an unsigned integer that fits, found an object"

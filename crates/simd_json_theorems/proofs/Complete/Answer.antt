@@ -28,7 +28,7 @@ unfolding descent
 positions-descent b d limit is none =
     let missing : Error = fault_at b Syntax (last_index (tokens b)) in
     let no_token : tokens b ≡ [] = tokens-positions b ∙ ap (tokens_along b) none in
-    let refused : descent b limit ≡ Err missing =
+    let rejected : descent b limit ≡ Err missing =
     ap (λ r. r >>= root_end b (tokens b))
     (ap (value_from b missing limit) no_token ∙ (value_from-takes b missing limit).none) in
     cc

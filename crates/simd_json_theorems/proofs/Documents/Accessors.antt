@@ -18,8 +18,8 @@ module _ {A : Type 0} where
   pub value : (t : Accessor A) (d : Document) (x : A) → (try_as_t t d ≡ Ok x) ↔ (as_t t d ≡ Some x)
   value t d x = value-or (t.answer d) (mismatch t.expected d) x
 
-  pub refused : (t : Accessor A) (d : Document) → as_t t d ≡ None → try_as_t t d ≡ Err (mismatch t.expected d)
-  refused t d none = rw none
+  pub rejected : (t : Accessor A) (d : Document) → as_t t d ≡ None → try_as_t t d ≡ Err (mismatch t.expected d)
+  rejected t d none = rw none
 
   at_first : (t : Accessor A) (found : Option Document) (x : A) → (try_at (try_as_t t) found ≡ Ok (Some x))
       ↔ (option_and_then t.answer found ≡ Some x)

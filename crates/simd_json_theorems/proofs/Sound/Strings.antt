@@ -16,9 +16,9 @@ use Rattle.simd_json_theorems.proofs.Literals.Quotes.{Passed, pass_piece, real_q
 use Rattle.simd_json_theorems.proofs.Sound.Escapes.{HasPiece, escape-cases}
 
 -- Where no escape stands, nothing is read.
-read_pieces-refused : (bs : List ℕ) → escape_at (92 ∷ bs) ≡ None → read_pieces 0 (92 ∷ bs) ≡ ([], 92 ∷ bs)
+read_pieces-rejected : (bs : List ℕ) → escape_at (92 ∷ bs) ≡ None → read_pieces 0 (92 ∷ bs) ≡ ([], 92 ∷ bs)
 unfolding read_pieces piece_at
-read_pieces-refused bs none = ap (λ o. with_piece o (92 ∷ bs) (λ n. read_pieces n bs)) none
+read_pieces-rejected bs none = ap (λ o. with_piece o (92 ∷ bs) (λ n. read_pieces n bs)) none
 
 -- From start up to stop there is no real quote and no control byte; zs stands after.
 module _ (b : List ℕ) (start stop : ℕ) (zs : List ℕ) (none : NoneBetween (is_real_quote b) start stop)
@@ -64,7 +64,7 @@ module _ (b : List ℕ) (start stop : ℕ) (zs : List ℕ) (none : NoneBetween (
         | inl is ↦
             let same : 92 ≡ x = sym (eqb-true x 92 is) in
             subst (λ y. (read_pieces 0 (y ∷ bs) ≡ ([], y ∷ bs)) ⊎ HasPiece (y ∷ bs)) same
-            (elim (escape-cases bs) [ inl none ↦ inl (read_pieces-refused bs none) | inr p ↦ inr p ])
+            (elim (escape-cases bs) [ inl none ↦ inl (read_pieces-rejected bs none) | inr p ↦ inr p ])
         | inr other ↦ inr (plain-piece m x bs l h e even other u)
       ]
 

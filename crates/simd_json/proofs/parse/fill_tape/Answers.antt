@@ -50,8 +50,9 @@ returns-clause-parse g c =
     let nodes = map item_of c.build.new.list.items in
     let capacity = min (bytes_listed c.args.buffers.now.limit c.args.tape.now.capacity) (capacity c.args.buffers.now) in
     let built = parse-written c.build.result c.args.s.now _ capacity nodes c.build.new.buffers.index.listed found.found.whole
-    c.build.ensures.built c.build.ensures.few c.build.ensures.refused (ap (λ r. r.index.listed) c.build.ensures.kept ∙ found.found.listed) in
+    c.build.ensures.built c.build.ensures.few c.build.ensures.rejected
+    (ap (λ r. r.index.listed) c.build.ensures.kept ∙ found.found.listed) in
     subst (λ ns. IsParse c.args.s.now c.args.buffers.now.limit capacity (result_err c.build.result) ns c.build.new.buffers.index.listed)
     (written-all c.build.result nodes c.build.ensures.empty)
-    (subst (λ l. IsParse c.args.s.now l capacity (result_err c.build.result) (written c.build.result nodes) c.build.new.buffers.index.listed)
-    found.limit built)
+    (subst (λ l. IsParse c.args.s.now l capacity (result_err c.build.result) (written c.build.result nodes)
+        c.build.new.buffers.index.listed) found.limit built)

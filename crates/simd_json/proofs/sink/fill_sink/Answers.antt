@@ -33,4 +33,4 @@ returns-clause-parse g c =
     subst (λ limit. IsParse b limit (capacity c.args.buffers.now) (result_err r) (written r held) c.build_tape.new.self.index.listed)
     c.in_ok-find_positions.ensures.limit
     (parse-written r b buffers.limit _ held _ scan.whole c.build_tape.ensures.built c.build_tape.ensures.few
-    c.build_tape.ensures.refused (ap (λ r. r.index.listed) c.build_tape.ensures.same ∙ scan.listed))
+    c.build_tape.ensures.rejected (ap (λ r. r.index.listed) c.build_tape.ensures.same ∙ scan.listed))

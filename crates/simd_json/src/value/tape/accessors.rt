@@ -157,7 +157,7 @@ impl<'tape, 'input> Value<'tape, 'input> {
     }
 
     // The result of an accessor, with the error that names the kind that it expects.
-    fn or_refusal<T>(&self, answer: Option<T>, expected: ValueType) -> Result<T, TryTypeError>
+    fn or_mismatch<T>(&self, answer: Option<T>, expected: ValueType) -> Result<T, TryTypeError>
         ensures { result ≡ ok_or answer (mismatch expected (doc self.now)) }
     {
         match answer {
@@ -173,104 +173,104 @@ impl<'tape, 'input> Value<'tape, 'input> {
     pub fn try_as_null(&self) -> Result<(), TryTypeError>
         ensures { result ≡ try_as_t accessors.null (doc self.now) }
     {
-        self.or_refusal(self.as_null(), ValueType::Null)
+        self.or_mismatch(self.as_null(), ValueType::Null)
     }
 
     /// The truth value, or an error that expects `Bool`.
     pub fn try_as_bool(&self) -> Result<bool, TryTypeError>
         ensures { result ≡ try_as_t accessors.bool (doc self.now) }
     {
-        self.or_refusal(self.as_bool(), ValueType::Bool)
+        self.or_mismatch(self.as_bool(), ValueType::Bool)
     }
 
     /// The integer, if it fits `i8`, else an error that expects `I64`.
     pub fn try_as_i8(&self) -> Result<i8, TryTypeError>
         ensures { result ≡ try_as_t accessors.i8 (doc self.now) }
     {
-        self.or_refusal(self.as_i8(), ValueType::I64)
+        self.or_mismatch(self.as_i8(), ValueType::I64)
     }
 
     /// The integer, if it fits `i16`, else an error that expects `I64`.
     pub fn try_as_i16(&self) -> Result<i16, TryTypeError>
         ensures { result ≡ try_as_t accessors.i16 (doc self.now) }
     {
-        self.or_refusal(self.as_i16(), ValueType::I64)
+        self.or_mismatch(self.as_i16(), ValueType::I64)
     }
 
     /// The integer, if it fits `i32`, else an error that expects `I64`.
     pub fn try_as_i32(&self) -> Result<i32, TryTypeError>
         ensures { result ≡ try_as_t accessors.i32 (doc self.now) }
     {
-        self.or_refusal(self.as_i32(), ValueType::I64)
+        self.or_mismatch(self.as_i32(), ValueType::I64)
     }
 
     /// The integer, if it fits `i64`, else an error that expects `I64`.
     pub fn try_as_i64(&self) -> Result<i64, TryTypeError>
         ensures { result ≡ try_as_t accessors.i64 (doc self.now) }
     {
-        self.or_refusal(self.as_i64(), ValueType::I64)
+        self.or_mismatch(self.as_i64(), ValueType::I64)
     }
 
     /// The integer, if it fits `i128`, else an error that expects `I128`.
     pub fn try_as_i128(&self) -> Result<i128, TryTypeError>
         ensures { result ≡ try_as_t accessors.i128 (doc self.now) }
     {
-        self.or_refusal(self.as_i128(), ValueType::I128)
+        self.or_mismatch(self.as_i128(), ValueType::I128)
     }
 
     /// The integer, if it fits `u8`, else an error that expects `U64`.
     pub fn try_as_u8(&self) -> Result<u8, TryTypeError>
         ensures { result ≡ try_as_t accessors.u8 (doc self.now) }
     {
-        self.or_refusal(self.as_u8(), ValueType::U64)
+        self.or_mismatch(self.as_u8(), ValueType::U64)
     }
 
     /// The integer, if it fits `u16`, else an error that expects `U64`.
     pub fn try_as_u16(&self) -> Result<u16, TryTypeError>
         ensures { result ≡ try_as_t accessors.u16 (doc self.now) }
     {
-        self.or_refusal(self.as_u16(), ValueType::U64)
+        self.or_mismatch(self.as_u16(), ValueType::U64)
     }
 
     /// The integer, if it fits `u32`, else an error that expects `U64`.
     pub fn try_as_u32(&self) -> Result<u32, TryTypeError>
         ensures { result ≡ try_as_t accessors.u32 (doc self.now) }
     {
-        self.or_refusal(self.as_u32(), ValueType::U64)
+        self.or_mismatch(self.as_u32(), ValueType::U64)
     }
 
     /// The integer, if it fits `u64`, else an error that expects `U64`.
     pub fn try_as_u64(&self) -> Result<u64, TryTypeError>
         ensures { result ≡ try_as_t accessors.u64 (doc self.now) }
     {
-        self.or_refusal(self.as_u64(), ValueType::U64)
+        self.or_mismatch(self.as_u64(), ValueType::U64)
     }
 
     /// The integer, if it is not negative, else an error that expects `U128`.
     pub fn try_as_u128(&self) -> Result<u128, TryTypeError>
         ensures { result ≡ try_as_t accessors.u128 (doc self.now) }
     {
-        self.or_refusal(self.as_u128(), ValueType::U128)
+        self.or_mismatch(self.as_u128(), ValueType::U128)
     }
 
     /// The integer, if it fits `usize`, else an error that expects `U64`.
     pub fn try_as_usize(&self) -> Result<usize, TryTypeError>
         ensures { result ≡ try_as_t accessors.usize (doc self.now) }
     {
-        self.or_refusal(self.as_usize(), ValueType::U64)
+        self.or_mismatch(self.as_usize(), ValueType::U64)
     }
 
     /// The string, or an error that expects `String`.
     pub fn try_as_str(&self) -> Result<&'input str, TryTypeError>
         ensures { ok_map (λ s. s.now) result ≡ try_as_t accessors.str (doc self.now) }
     {
-        self.or_refusal(self.as_str(), ValueType::String)
+        self.or_mismatch(self.as_str(), ValueType::String)
     }
 
     /// The literal of a decimal, or an error that expects `Decimal`.
     pub fn try_as_decimal(&self) -> Result<&'input str, TryTypeError>
         ensures { ok_map (λ s. s.now) result ≡ try_as_t accessors.decimal (doc self.now) }
     {
-        self.or_refusal(self.as_decimal(), ValueType::Decimal)
+        self.or_mismatch(self.as_decimal(), ValueType::Decimal)
     }
 }

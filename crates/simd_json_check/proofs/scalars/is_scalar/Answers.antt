@@ -36,14 +36,16 @@ returns-in-Integer c _ b i at =
     (_, read b i _ _ (begins b c.args.bytes.now i at c.requires c.if-begins_number.ensures) (c.in-Integer.ensures b i at).1)
 
 pub returns-in-Decimal : goal.returns-in-Decimal
-returns-in-Decimal c _ b i at = (_, read b i _ _ (begins b c.args.bytes.now i at c.requires c.if-begins_number.ensures) (c.in-Decimal.ensures b i at))
+returns-in-Decimal c _ b i at =
+    (_, read b i _ _ (begins b c.args.bytes.now i at c.requires c.if-begins_number.ensures) (c.in-Decimal.ensures b i at))
 
 pub parse_long-requires : goal.parse_long-requires
 parse_long-requires c = c.in-Long.ensures c.args.bytes.now 0 refl
 
 pub returns-in-Long : goal.returns-in-Long
 returns-in-Long c ok b i at =
-    long b i c.in-Long.len (begins b c.args.bytes.now i at c.requires c.if-begins_number.ensures) c.parse_long.result (c.parse_long.ensures b i at)
+    long b i c.in-Long.len (begins b c.args.bytes.now i at c.requires c.if-begins_number.ensures)
+    c.parse_long.result (c.parse_long.ensures b i at)
     (subst IsTrue c.is_ok.ensures.value ok)
 
 pub returns-then-first-eq110 : goal.returns-then-first-eq110

@@ -5,13 +5,13 @@ use linked_list_allocator::LocalHeap;
 // The lengths that the lists have where a growth fails, one after another, as the heap gets larger
 // by steps. Where no growth fails, the result is the wanted one; lists that have capacity for all
 // from the start ask for no more.
-fn refused_lengths(
+fn failed_lengths(
     rt: &(impl AllocGlobal + Abort),
     text: &[u8],
     step: usize,
     want: Found,
 ) -> std::result::Result<Vec<(usize, usize)>, Fail> {
-    let mut refused: Vec<(usize, usize)> = Vec::new(rt.alloc());
+    let mut failed: Vec<(usize, usize)> = Vec::new(rt.alloc());
     let mut whole = 0u32;
     for steps in 0..300usize {
         let heap = LocalHeap::new(rt.alloc(), step.saturating_mul(steps))?;
@@ -25,14 +25,14 @@ fn refused_lengths(
             Err(e) => {
                 assert_eq!(rt; e, Error::generic(ErrorType::OutOfMemory));
                 let lengths = (positions.len(), blocks.len());
-                if refused.last() != Some(&lengths) {
-                    refused.push(lengths)?;
+                if failed.last() != Some(&lengths) {
+                    failed.push(lengths)?;
                 }
             }
         }
     }
     assert!(rt; whole > 0);
-    Ok(refused)
+    Ok(failed)
 }
 
 // No growth is tried where both lists are as long as the input has bytes and blocks, whatever they
@@ -61,7 +61,7 @@ fn needs_no_growth(rt: &(impl AllocGlobal + Abort), text: &[u8], want: Found) ->
 
 // Without a backslash the list of blocks of one window does not grow.
 #[test]
-fn each_growth_of_one_window_is_refused(rt: HostRuntime) -> Tested {
+fn each_growth_of_one_window_fails(rt: HostRuntime) -> Tested {
     for (before, byte, len, want, lengths) in [
         (
             b"".as_slice(),
@@ -96,8 +96,8 @@ fn each_growth_of_one_window_is_refused(rt: HostRuntime) -> Tested {
     ] {
         let text = text(rt.alloc(), before, byte, len, before)?;
         let step = if len < 1000 { 16 } else { 64 };
-        let refused = refused_lengths(&rt, &text, step, want)?;
-        assert_eq!(rt; refused.as_slice(), lengths);
+        let failed = failed_lengths(&rt, &text, step, want)?;
+        assert_eq!(rt; failed.as_slice(), lengths);
         needs_no_growth(&rt, &text, want)?;
     }
     Ok(())
@@ -106,7 +106,7 @@ fn each_growth_of_one_window_is_refused(rt: HostRuntime) -> Tested {
 // The list of structural indexes grows again where a later window has more than was guessed, and
 // the list of blocks too.
 #[test]
-fn each_growth_of_several_windows_is_refused(rt: HostRuntime) -> Tested {
+fn each_growth_of_several_windows_fails(rt: HostRuntime) -> Tested {
     let mut text = text(rt.alloc(), b"", b' ', 8192, b"")?;
     for _ in 0..20_000 {
         text.push(b',')?;
@@ -115,13 +115,13 @@ fn each_growth_of_several_windows_is_refused(rt: HostRuntime) -> Tested {
         positions: 20_000,
         escape_blocks: 0,
     };
-    let refused = refused_lengths(&rt, &text, 1024, want)?;
-    assert_eq!(rt; refused.first(), Some(&(0, 0)));
-    assert!(rt; refused.len() > 2, "{refused:?}");
-    for lengths in refused.windows(2) {
+    let failed = failed_lengths(&rt, &text, 1024, want)?;
+    assert_eq!(rt; failed.first(), Some(&(0, 0)));
+    assert!(rt; failed.len() > 2, "{failed:?}");
+    for lengths in failed.windows(2) {
         assert!(rt;
             lengths[0].0 < lengths[1].0 || lengths[0].1 < lengths[1].1,
-            "{refused:?}"
+            "{failed:?}"
         );
     }
     needs_no_growth(&rt, &text, want)

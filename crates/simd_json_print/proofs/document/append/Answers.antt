@@ -10,7 +10,9 @@ returns-in-Ok g c =
     let some = is-appended put.result _ _ old put.new.target put.ensures.kept.0 put.ensures.kept.1 in
     record {
       appended = λ d is.
-          let all = is-appended put.result _ _ old put.new.target (text (not (nat_eq g.row.PRETTY 0)) d 0) (put.ensures.given d is) in search rules;
+          let all = is-appended put.result _ _ old put.new.target (text (not (nat_eq g.row.PRETTY 0)) d 0)
+              (put.ensures.given d is) in
+          search rules;
       lacking = λ d is. search rules;
       kept = search rules;
       capacity = search rules;
@@ -24,7 +26,9 @@ returns-in-Err g c =
     record {
       appended = λ d is. search rules;
       lacking = λ d is.
-          let all = is-appended put.result _ _ old put.new.target (text (not (nat_eq g.row.PRETTY 0)) d 0) (put.ensures.given d is) in search rules;
+          let all = is-appended put.result _ _ old put.new.target (text (not (nat_eq g.row.PRETTY 0)) d 0)
+              (put.ensures.given d is) in
+          search rules;
       kept = search rules;
       capacity = search rules;
     }

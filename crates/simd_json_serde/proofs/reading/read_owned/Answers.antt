@@ -1,7 +1,7 @@
 use Rattle.std.proofs.Common.{sym, subst}
 use Rattle.simd_json.specs.Reserved.{IsReserved}
 use Rattle.simd_json_serde.specs.Outcomes.{HasParseMemory}
-use Rattle.simd_json_serde.proofs.Memory.{late_has_memory, refused_has_memory}
+use Rattle.simd_json_serde.proofs.Memory.{late_has_memory, rejected_has_memory}
 use Rattle.simd_json_serde.proofs.reading.read_owned.Goals.{in-Ok, in-Err}
 use Rattle.simd_json_serde.proofs.reading.read_owned.Goals as goal
 
@@ -11,6 +11,6 @@ returns-clause-reserved g c len held =
       subst (IsReserved len c.refill_tape-parsed.new.buffers) (sym c.reset.ensures) both.0,
       λ short. elim c.match-parsed.branch [
         | in-Ok w ↦ subst HasParseMemory (sym w.read-is) (late_has_memory _ w.read_nodes_owned-read.ensures)
-        | in-Err w ↦ subst HasParseMemory (sym w.read-is) (refused_has_memory _ _ w.in-Err.is (both.1 short))
+        | in-Err w ↦ subst HasParseMemory (sym w.read-is) (rejected_has_memory _ _ w.in-Err.is (both.1 short))
       ],
     )

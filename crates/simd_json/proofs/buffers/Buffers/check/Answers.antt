@@ -4,15 +4,15 @@ use Rattle.std.specs.Prelude.{IfErr, OnOk}
 use Rattle.simd_json_check.specs.Capacities.{IsUnchecked}
 use Rattle.simd_json_parts.specs.Listing.{listing}
 use Rattle.simd_json_parts.specs.Nodes.{Item}
-use Rattle.simd_json.proofs.Parses.ParseLaws.{answered-parsed, refused-or}
+use Rattle.simd_json.proofs.Parses.ParseLaws.{answered-parsed, rejected-or}
 use Rattle.simd_json.proofs.buffers.Buffers.check.Goals as goal
-use Rattle.simd_json.specs.Parsed.{IsParsed, IsRefused}
+use Rattle.simd_json.specs.Parsed.{IsParsed, IsRejected}
 
-pub returns-clause-refused : goal.returns-clause-refused
-returns-clause-refused g c =
+pub returns-clause-rejected : goal.returns-clause-rejected
+returns-clause-rejected g c =
     let b = c.args.input.now in
-    subst (λ r. IfErr c.check.result (λ e. IsRefused b r.limit e ⊎ IsUnchecked b r.limit r.index e)) c.self.view_is
-    (IfErr-weaker c.check.result _ _ (λ e. refused-or b c.self.inside.max_depth e) c.check.ensures.fault)
+    subst (λ r. IfErr c.check.result (λ e. IsRejected b r.limit e ⊎ IsUnchecked b r.limit r.index e)) c.self.view_is
+    (IfErr-weaker c.check.result _ _ (λ e. rejected-or b c.self.inside.max_depth e) c.check.ensures.fault)
 
 pub returns-clause-parsed : goal.returns-clause-parsed
 returns-clause-parsed g c =

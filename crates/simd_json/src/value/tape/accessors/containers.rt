@@ -28,14 +28,14 @@ impl<'tape, 'input> Value<'tape, 'input> {
     pub fn try_as_array(&self) -> Result<Array<'tape, 'input>, TryTypeError>
         ensures { ok_map items result ≡ try_as_t accessors.array (doc self.now) }
     {
-        self.or_refusal(self.as_array(), ValueType::Array)
+        self.or_mismatch(self.as_array(), ValueType::Array)
     }
 
     /// The value as an object, or an error that expects `Object`.
     pub fn try_as_object(&self) -> Result<Object<'tape, 'input>, TryTypeError>
         ensures { ok_map entries result ≡ try_as_t accessors.object (doc self.now) }
     {
-        self.or_refusal(self.as_object(), ValueType::Object)
+        self.or_mismatch(self.as_object(), ValueType::Object)
     }
 
     /// The first value with the key, or `None` where the key is missing. Linear time, as
@@ -45,7 +45,7 @@ impl<'tape, 'input> Value<'tape, 'input> {
     pub fn try_get(&self, k: &str) -> Result<Option<Value<'tape, 'input>>, TryTypeError>
         ensures { ok_map (option_map doc) result ≡ views.try_get k.now (doc self.now) }
     {
-        self.or_refusal(self.as_object(), ValueType::Object)?;
+        self.or_mismatch(self.as_object(), ValueType::Object)?;
         Ok(self.get(k))
     }
 
@@ -56,7 +56,7 @@ impl<'tape, 'input> Value<'tape, 'input> {
     pub fn try_get_idx(&self, i: usize) -> Result<Option<Value<'tape, 'input>>, TryTypeError>
         ensures { ok_map (option_map doc) result ≡ views.try_get_idx i (doc self.now) }
     {
-        self.or_refusal(self.as_array(), ValueType::Array)?;
+        self.or_mismatch(self.as_array(), ValueType::Array)?;
         Ok(self.get_idx(i))
     }
 

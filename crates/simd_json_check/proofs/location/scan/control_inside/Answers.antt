@@ -2,7 +2,8 @@ use Rattle.std.proofs.Common.{below_more, length, sym, arith}
 use Rattle.simd_json_check.specs.Locations.{is_control_inside}
 use Rattle.simd_json_check.proofs.Places.StringScan.{scan-none, read-after, control-here, control-outside, control-other, first_index-is}
 use Rattle.simd_json_check.proofs.location.scan.control_inside.Goals as goal
-use Rattle.simd_json_check.proofs.location.scan.control_inside.Goals.{else-strings-via-then-strings+else-byte-lt32, else-strings-via-else-strings}
+use Rattle.simd_json_check.proofs.location.scan.control_inside.Goals.{else-strings-via-then-strings+else-byte-lt32}
+use Rattle.simd_json_check.proofs.location.scan.control_inside.Goals.{else-strings-via-else-strings}
 
 pub loop-i-init : goal.loop-i-init
 loop-i-init c = (scan-none c.args.input.now, λ k h. absurd (omega arith))

@@ -5,7 +5,7 @@ use Rattle.simd_json_parts.specs.Nodes.{static_item}
 use Rattle.simd_json_scalars.specs.NumeralRead.{IsNumeralAt}
 use Rattle.simd_json_stages.specs.Put.{IsNoScalar}
 use Rattle.simd_json_stages.proofs.Exits.{passed-on}
-use Rattle.simd_json_stages.proofs.Machine.ScalarPut.{decimal-asked, decimal-put, offset-within, number-refused, static-put}
+use Rattle.simd_json_stages.proofs.Machine.ScalarPut.{decimal-asked, decimal-put, offset-within, number-rejected, static-put}
 use Rattle.simd_json_stages.proofs.stage2.scalar.push_number.Goals as goal
 use Rattle.simd_json_stages.proofs.stage2.scalar.push_number.Goals.{in-Some, in-None}
 
@@ -28,8 +28,8 @@ returns-in-Decimal-clause-put g c =
       | in-None w ↦ rw w.numeral-is (w.parse_numeral-numeral.ensures b c.args.p.at after)
     ])) (c.share.ensures.string b input) c.push_decimal.ensures.put (c.share.ensures.rest b input)
 
-pub returns-in-Invalid-clause-refused : goal.returns-in-Invalid-clause-refused
-returns-in-Invalid-clause-refused g c =
+pub returns-in-Invalid-clause-rejected : goal.returns-in-Invalid-clause-rejected
+returns-in-Invalid-clause-rejected g c =
     let b = g.K.Original.bytes in
     let given = c.requires in
     let after = sym (c.from-rest.ensures b given.at.input) in
@@ -39,16 +39,16 @@ returns-in-Invalid-clause-refused g c =
     ]) in
     let within = subst (λ bs. c.in-Invalid.offset ≤ length bs) after
     (offset-within b c.args.p.at c.in-Invalid.offset (omega (arith, given.at.within)) is) in
-    number-refused b c.args.p.at c.in-Invalid.offset c.invalid_number.result given.form is (c.invalid_number.ensures b after within)
+    number-rejected b c.args.p.at c.in-Invalid.offset c.invalid_number.result given.form is (c.invalid_number.ensures b after within)
 
-pub returns-in_err-read_long-in-Long-clause-refused : goal.returns-in_err-read_long-in-Long-clause-refused
-returns-in_err-read_long-in-Long-clause-refused g c =
+pub returns-in_err-read_long-in-Long-clause-rejected : goal.returns-in_err-read_long-in-Long-clause-rejected
+returns-in_err-read_long-in-Long-clause-rejected g c =
     let b = g.K.Original.bytes in
     let given = c.requires in
     let after = sym (c.from-rest.ensures b given.at.input) in
     let read = c.in_err-read_long-in-Long.ensures b after (omega (arith, given.at.within)) in
     passed-on c.from_residual.result _ (IsNoScalar b c.args.p.at) c.from_residual.ensures.1
-    (number-refused b c.args.p.at read.0 _ given.form read.1 read.2)
+    (number-rejected b c.args.p.at read.0 _ given.form read.1 read.2)
 
 pub returns-in_ok-read_long-in-Long-clause-put : goal.returns-in_ok-read_long-in-Long-clause-put
 returns-in_ok-read_long-in-Long-clause-put g c =

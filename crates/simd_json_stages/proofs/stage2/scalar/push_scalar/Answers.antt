@@ -5,7 +5,7 @@ use Rattle.simd_json_parts.specs.Document.{null, boolean}
 use Rattle.simd_json_parts.specs.declared.node.StaticNode.TheVariants as fixed
 use Rattle.simd_json_stages.proofs.Tokens.Booleans.{form_at-boolean, no_boolean}
 use Rattle.simd_json_stages.proofs.Tokens.ScalarLaws.{form_at-null, form_at-word, form_at-number, word_null}
-use Rattle.simd_json_stages.proofs.Machine.ScalarPut.{static-put, atom-refused}
+use Rattle.simd_json_stages.proofs.Machine.ScalarPut.{static-put, atom-rejected}
 use Rattle.simd_json_stages.proofs.stage2.scalar.push_scalar.Goals as goal
 use Rattle.simd_json_stages.proofs.stage2.scalar.push_scalar.Goals.{then-is_integer-via-then-is_integer}
 use Rattle.simd_json_stages.proofs.stage2.scalar.push_scalar.Goals.{then-is_integer-via-else-is_integer+then-p-eq45}
@@ -28,14 +28,14 @@ from-rest-requires g c =
     let at = c.requires.at in
     record { b = g.K.Original.bytes; reads = at.input; within = omega (arith, at.within) }
 
-pub returns-then-not-is_valid_null_atom-clause-refused : goal.returns-then-not-is_valid_null_atom-clause-refused
-returns-then-not-is_valid_null_atom-clause-refused g c =
+pub returns-then-not-is_valid_null_atom-clause-rejected : goal.returns-then-not-is_valid_null_atom-clause-rejected
+returns-then-not-is_valid_null_atom-clause-rejected g c =
     let b = g.K.Original.bytes in
     let given = c.requires in
     let i : ℕ = c.args.p.at in
     let after : drop i b ≡ c.from-rest.result.now = sym (c.from-rest.ensures b given.at.input) in
     let first : byte_at b i ≡ c.args.p.byte = sym given.at.first in
-    atom-refused b i c.args.p.byte c.no_scalar.result c.no_scalar.ensures given.at.first
+    atom-rejected b i c.args.p.byte c.no_scalar.result c.no_scalar.ensures given.at.first
     (rw c.if-p-eq110.true (form_at-word word_null false b c.from-rest.result.now i after
     (first ∙ c.if-p-eq110.true) (sym c.is_valid_null_atom.ensures ∙ c.if-not-is_valid_null_atom.true)))
 
@@ -47,8 +47,8 @@ returns-then-p-eq110-clause-put g c =
     (form_at-null b c.from-rest.result.now c.args.p.at (sym (c.from-rest.ensures b given.at.input)) (sym given.at.first ∙ c.if-p-eq110.true)
     (sym c.is_valid_null_atom.ensures ∙ c.if-not-is_valid_null_atom.false)) refl c.push_static.ensures.put
 
-pub returns-in-None-clause-refused : goal.returns-in-None-clause-refused
-returns-in-None-clause-refused g c =
+pub returns-in-None-clause-rejected : goal.returns-in-None-clause-rejected
+returns-in-None-clause-rejected g c =
     let b = g.K.Original.bytes in
     let given = c.requires in
     let i : ℕ = c.args.p.at in

@@ -58,8 +58,8 @@ bad_escape-requires g c =
     let is = c.in-Err.ensures b _ reads (string-before c.requires c.position_or_end-next.ensures) in
     omega (arith, c.requires.input.fits, bad-within c.requires c.in-Err.bad.offset c.in-Err.bad.letter is)
 
-pub returns-in-Err-clause-refused : goal.returns-in-Err-clause-refused
-returns-in-Err-clause-refused g c =
+pub returns-in-Err-clause-rejected : goal.returns-in-Err-clause-rejected
+returns-in-Err-clause-rejected g c =
     let b = g.K.Original.bytes in
     let reads = c.may_have_escape-may_have_escape.ensures.reads b c.requires.input in
     c.in-Err.ensures b _ reads (string-before c.requires c.position_or_end-next.ensures) ∙ ap Err (sym c.bad_escape.ensures)

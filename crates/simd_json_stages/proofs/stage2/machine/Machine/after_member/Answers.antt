@@ -9,14 +9,14 @@ use Rattle.simd_json_stages.proofs.Machine.Bounds.{next-ahead, two-advances}
 use Rattle.simd_json_stages.proofs.Machine.BuildingSteps.{closed_at, top-header, step-close, step-comma}
 use Rattle.simd_json_stages.proofs.Machine.Following.{at-member, comma-progress, closed-after}
 use Rattle.simd_json_stages.proofs.Machine.Holding.{HasHeader}
-use Rattle.simd_json_stages.proofs.Machine.Refusing.{refuses-end, refuses-comma_end, refuses-other}
+use Rattle.simd_json_stages.proofs.Machine.Rejecting.{rejects-end, rejects-comma_end, rejects-other}
 use Rattle.simd_json_stages.proofs.stage2.machine.Machine.after_member.Goals as goal
 
-pub returns-in_err-q-clause-refused : goal.returns-in_err-q-clause-refused
-returns-in_err-q-clause-refused g c =
+pub returns-in_err-q-clause-rejected : goal.returns-in_err-q-clause-rejected
+returns-in_err-q-clause-rejected g c =
     let none = c.in_err-q.ensures.none in
     passed-as (IsFault g.K.Original.bytes c.args.route) c.from_residual.result c.from_residual.ensures.1 none.1
-    (refuses-end c.requires.last.after c.requires.inside none.0)
+    (rejects-end c.requires.last.after c.requires.inside none.0)
 
 pub next_token-requires-then-q-eq44 : goal.next_token-requires-then-q-eq44
 next_token-requires-then-q-eq44 g c =
@@ -28,12 +28,12 @@ next_token-requires-then-q-eq44 g c =
       input = next-ahead last.on_route.positions next (last.progress.input next.more);
     }
 
-pub returns-in_err-next_token-clause-refused : goal.returns-in_err-next_token-clause-refused
-returns-in_err-next_token-clause-refused g c =
+pub returns-in_err-next_token-clause-rejected : goal.returns-in_err-next_token-clause-rejected
+returns-in_err-next_token-clause-rejected g c =
     let none = c.in_err-next_token.ensures.none in
     passed-as (IsFault g.K.Original.bytes c.args.route) c.from_residual-in_err-next_token.result
     c.from_residual-in_err-next_token.ensures.1 none.1
-    (refuses-comma_end c.requires.last.after c.requires.inside c.in_ok-q.ensures.next c.if-q-eq44.true none.0)
+    (rejects-comma_end c.requires.last.after c.requires.inside c.in_ok-q.ensures.next c.if-q-eq44.true none.0)
 
 pub returns-then-q-eq44-clause-advances : goal.returns-then-q-eq44-clause-advances
 returns-then-q-eq44-clause-advances g c =
@@ -49,13 +49,13 @@ returns-then-q-eq44-clause-followed g c =
     (comma-progress last.on_route.positions last.progress n m) (omega (arith, l.1, last.depth)) (omega (arith, l.1, c.requires.inside))
     (step-comma last.after c.requires.inside n c.if-q-eq44.true m)
 
-pub returns-then-q-closer-clause-refused : goal.returns-then-q-closer-clause-refused
-returns-then-q-closer-clause-refused g c =
+pub returns-then-q-closer-clause-rejected : goal.returns-then-q-closer-clause-rejected
+returns-then-q-closer-clause-rejected g c =
     let given = c.requires in
     subst (IsFault g.K.Original.bytes c.args.route)
     (sym (c.fault.ensures ∙ ap (λ k. record { kind = k; index = c.in_ok-q.q.at; byte = c.in_ok-q.q.byte })
     (c.content_kind.ensures ∙ ap content_kind given.container)))
-    (refuses-other given.last.after given.inside c.in_ok-q.ensures.next c.if-q-eq44.false
+    (rejects-other given.last.after given.inside c.in_ok-q.ensures.next c.if-q-eq44.false
     (λ is. c.if-q-closer.true (is ∙ sym (c.closer.ensures ∙ ap closer given.container))))
 
 pub close-requires : goal.close-requires

@@ -2,7 +2,7 @@ use Rattle.std.proofs.Common.{◌≡◌, ap, sym, subst, refl, arith}
 use Rattle.simd_json_stages.specs.Members.{HasCome, HasFollowed, IsFault}
 use Rattle.simd_json_stages.specs.Progresses.{AdvancesPastMember, reached}
 use Rattle.simd_json_stages.proofs.Machine.Following.{end-built}
-use Rattle.simd_json_stages.proofs.Machine.Refusing.{refuses-trailing}
+use Rattle.simd_json_stages.proofs.Machine.Rejecting.{rejects-trailing}
 use Rattle.simd_json_stages.proofs.stage2.machine.Machine.next_member.Goals as goal
 
 pub returns-in-Opened-clause-member : goal.returns-in-Opened-clause-member
@@ -33,12 +33,12 @@ returns-in-Next-clause-further g c =
     let along = subst (AdvancesPastMember c.loop-p.p) c.in-Next.is c.in_ok-next.ensures.advances in
     omega (arith, along.0, c.loop-p.invariant.passed)
 
-pub returns-then-p-route-clause-refused : goal.returns-then-p-route-clause-refused
-returns-then-p-route-clause-refused g c =
+pub returns-then-p-route-clause-rejected : goal.returns-then-p-route-clause-rejected
+returns-then-p-route-clause-rejected g c =
     let last = c.loop-p.invariant.last in
     let none : c.loop-p.p.depth ≡ 0 = omega arith in
     subst (IsFault g.K.Original.bytes c.args.route) (sym c.fault_after_root.ensures)
-    (refuses-trailing last.after none last.progress.read.first (omega (arith, c.if-p-route)))
+    (rejects-trailing last.after none last.progress.read.first (omega (arith, c.if-p-route)))
 
 pub returns-clause-member : goal.returns-clause-member
 returns-clause-member g c =

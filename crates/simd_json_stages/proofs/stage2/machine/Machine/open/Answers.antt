@@ -9,14 +9,14 @@ use Rattle.simd_json_stages.proofs.Machine.Bounds.{later, after-first, before-fi
 use Rattle.simd_json_stages.proofs.Machine.BuildingSteps.{step-empty, step-open}
 use Rattle.simd_json_stages.proofs.Machine.Following.{at-member}
 use Rattle.simd_json_stages.proofs.Machine.InputLaws.{reads-kept}
-use Rattle.simd_json_stages.proofs.Machine.Refusing.{refuses-deep, refuses-open_end}
+use Rattle.simd_json_stages.proofs.Machine.Rejecting.{rejects-deep, rejects-open_end}
 use Rattle.simd_json_stages.proofs.stage2.machine.Machine.open.Goals as goal
 
-pub returns-then-p-route-clause-refused : goal.returns-then-p-route-clause-refused
-returns-then-p-route-clause-refused g c =
+pub returns-then-p-route-clause-rejected : goal.returns-then-p-route-clause-rejected
+returns-then-p-route-clause-rejected g c =
     let first = c.requires.first in
     subst (IsFault g.K.Original.bytes c.args.route) (sym c.fault.ensures)
-    (refuses-deep c.args.container first.value first.progress.read.first (omega arith) c.requires.bracket)
+    (rejects-deep c.args.container first.value first.progress.read.first (omega arith) c.requires.bracket)
 
 pub next_token-requires : goal.next_token-requires
 next_token-requires g c =
@@ -28,12 +28,12 @@ next_token-requires g c =
           (omega (arith, later _ _ first.on_route.positions c.args.p first.progress.read more));
     }
 
-pub returns-in_err-q-clause-refused : goal.returns-in_err-q-clause-refused
-returns-in_err-q-clause-refused g c =
+pub returns-in_err-q-clause-rejected : goal.returns-in_err-q-clause-rejected
+returns-in_err-q-clause-rejected g c =
     let first = c.requires.first in
     let none = c.in_err-q.ensures.none in
     passed-as (IsFault g.K.Original.bytes c.args.route) c.from_residual.result c.from_residual.ensures.1 none.1
-    (refuses-open_end c.args.container first.value first.progress.read.first (omega arith) c.requires.bracket none.0)
+    (rejects-open_end c.args.container first.value first.progress.read.first (omega arith) c.requires.bracket none.0)
 
 pub returns-then-q-closer-clause-came : goal.returns-then-q-closer-clause-came
 returns-then-q-closer-clause-came g c =

@@ -4,13 +4,13 @@ use Rattle.simd_json_stages.proofs.Exits.{passed-on, passed-as}
 use Rattle.simd_json_stages.proofs.Machine.Bounds.{node-left, name-token, next-ahead, string-ahead, two-advances}
 use Rattle.simd_json_stages.proofs.Machine.BuildingSteps.{step-name}
 use Rattle.simd_json_stages.proofs.Machine.Following.{named-progress}
-use Rattle.simd_json_stages.proofs.Machine.Refusing.{refuses-no_name, refuses-name, refuses-name_end, refuses-no_colon, refuses-colon_end}
+use Rattle.simd_json_stages.proofs.Machine.Rejecting.{rejects-no_name, rejects-name, rejects-name_end, rejects-no_colon, rejects-colon_end}
 use Rattle.simd_json_stages.proofs.stage2.machine.Machine.read_key.Goals as goal
 
-pub returns-then-p-ne34-clause-refused : goal.returns-then-p-ne34-clause-refused
-returns-then-p-ne34-clause-refused g c =
+pub returns-then-p-ne34-clause-rejected : goal.returns-then-p-ne34-clause-rejected
+returns-then-p-ne34-clause-rejected g c =
     subst (IsFault g.K.Original.bytes c.args.route) (sym c.fault.ensures)
-    (refuses-no_name c.args.kind c.requires.name c.requires.progress.read.first c.if-p-ne34.true)
+    (rejects-no_name c.args.kind c.requires.name c.requires.progress.read.first c.if-p-ne34.true)
 
 pub push_string-requires : goal.push_string-requires
 push_string-requires g c = let given = c.requires in λ κs. (
@@ -25,10 +25,10 @@ push_string-requires g c = let given = c.requires in λ κs. (
   },
 )
 
-pub returns-in_err-push_string-clause-refused : goal.returns-in_err-push_string-clause-refused
-returns-in_err-push_string-clause-refused g c =
+pub returns-in_err-push_string-clause-rejected : goal.returns-in_err-push_string-clause-rejected
+returns-in_err-push_string-clause-rejected g c =
     passed-on c.from_residual.result _ (IsFault g.K.Original.bytes c.args.route) c.from_residual.ensures.1
-    (refuses-name c.requires.name c.requires.progress.read.first c.if-p-ne34.false _ c.in_err-push_string.ensures.refused)
+    (rejects-name c.requires.name c.requires.progress.read.first c.if-p-ne34.false _ c.in_err-push_string.ensures.rejected)
 
 pub next_token-requires : goal.next_token-requires
 next_token-requires g c =
@@ -41,16 +41,16 @@ next_token-requires g c =
       input = string-ahead e r.read (name-token e given.name) c.if-p-ne34.false c.in_ok-push_string.ensures.put;
     }
 
-pub returns-in_err-colon-clause-refused : goal.returns-in_err-colon-clause-refused
-returns-in_err-colon-clause-refused g c =
+pub returns-in_err-colon-clause-rejected : goal.returns-in_err-colon-clause-rejected
+returns-in_err-colon-clause-rejected g c =
     let none = c.in_err-colon.ensures.none in
     passed-as (IsFault g.K.Original.bytes c.args.route) c.from_residual-in_err-colon.result c.from_residual-in_err-colon.ensures.1 none.1
-    (refuses-name_end c.requires.name c.requires.progress.read.first c.if-p-ne34.false c.in_ok-push_string.ensures.put none.0)
+    (rejects-name_end c.requires.name c.requires.progress.read.first c.if-p-ne34.false c.in_ok-push_string.ensures.put none.0)
 
-pub returns-then-colon-ne58-clause-refused : goal.returns-then-colon-ne58-clause-refused
-returns-then-colon-ne58-clause-refused g c =
+pub returns-then-colon-ne58-clause-rejected : goal.returns-then-colon-ne58-clause-rejected
+returns-then-colon-ne58-clause-rejected g c =
     subst (IsFault g.K.Original.bytes c.args.route) (sym c.fault-then-colon-ne58.ensures)
-    (refuses-no_colon c.requires.name c.requires.progress.read.first c.if-p-ne34.false c.in_ok-push_string.ensures.put
+    (rejects-no_colon c.requires.name c.requires.progress.read.first c.if-p-ne34.false c.in_ok-push_string.ensures.put
     c.in_ok-colon.ensures.next c.if-colon-ne58.true)
 
 pub next_token-requires-2 : goal.next_token-requires-2
@@ -66,11 +66,11 @@ next_token-requires-2 g c =
           (string-ahead e r.read (name-token e given.name) c.if-p-ne34.false c.in_ok-push_string.ensures.put next.more);
     }
 
-pub returns-in_err-value-clause-refused : goal.returns-in_err-value-clause-refused
-returns-in_err-value-clause-refused g c =
+pub returns-in_err-value-clause-rejected : goal.returns-in_err-value-clause-rejected
+returns-in_err-value-clause-rejected g c =
     let none = c.in_err-value.ensures.none in
     passed-as (IsFault g.K.Original.bytes c.args.route) c.from_residual-in_err-value.result c.from_residual-in_err-value.ensures.1 none.1
-    (refuses-colon_end c.requires.name c.requires.progress.read.first c.if-p-ne34.false c.in_ok-push_string.ensures.put
+    (rejects-colon_end c.requires.name c.requires.progress.read.first c.if-p-ne34.false c.in_ok-push_string.ensures.put
     c.in_ok-colon.ensures.next c.if-colon-ne58.false none.0)
 
 pub returns-clause-advances : goal.returns-clause-advances

@@ -3,7 +3,7 @@ use Rattle.simd_json_stages.specs.Members.{HasCapacity, IsFault}
 use Rattle.simd_json_stages.proofs.Exits.{passed-on}
 use Rattle.simd_json_stages.proofs.Machine.Bounds.{node-left, last-inside, value-token, string-ahead, scalar-ahead, after-value}
 use Rattle.simd_json_stages.proofs.Machine.BuildingSteps.{step-scalar, step-string}
-use Rattle.simd_json_stages.proofs.Machine.Refusing.{refuses-scalar, refuses-string}
+use Rattle.simd_json_stages.proofs.Machine.Rejecting.{rejects-scalar, rejects-string}
 use Rattle.simd_json_stages.proofs.stage2.machine.Machine.read_value.Goals.{then-p-eq34+in_ok-push_string, else-p-eq34+in_ok-push_scalar}
 use Rattle.simd_json_stages.proofs.stage2.machine.Machine.read_value.Goals as goal
 
@@ -20,10 +20,10 @@ push_string-requires g c = let given = c.requires in λ κs. (
   },
 )
 
-pub returns-in_err-push_string-clause-refused : goal.returns-in_err-push_string-clause-refused
-returns-in_err-push_string-clause-refused g c =
+pub returns-in_err-push_string-clause-rejected : goal.returns-in_err-push_string-clause-rejected
+returns-in_err-push_string-clause-rejected g c =
     passed-on c.from_residual.result _ (IsFault g.K.Original.bytes c.args.route) c.from_residual.ensures.1
-    (refuses-string _ c.requires.value c.requires.progress.read.first c.if-p-eq34.true c.in_err-push_string.ensures.refused)
+    (rejects-string _ c.requires.value c.requires.progress.read.first c.if-p-eq34.true c.in_err-push_string.ensures.rejected)
 
 pub push_scalar-requires : goal.push_scalar-requires
 push_scalar-requires g c = let given = c.requires in λ κs. (
@@ -41,10 +41,10 @@ push_scalar-requires g c = let given = c.requires in λ κs. (
   },
 )
 
-pub returns-in_err-push_scalar-clause-refused : goal.returns-in_err-push_scalar-clause-refused
-returns-in_err-push_scalar-clause-refused g c =
+pub returns-in_err-push_scalar-clause-rejected : goal.returns-in_err-push_scalar-clause-rejected
+returns-in_err-push_scalar-clause-rejected g c =
     passed-on c.from_residual-in_err-push_scalar.result _ (IsFault g.K.Original.bytes c.args.route)
-    c.from_residual-in_err-push_scalar.ensures.1 (refuses-scalar _ c.requires.value c.in_err-push_scalar.ensures.refused)
+    c.from_residual-in_err-push_scalar.ensures.1 (rejects-scalar _ c.requires.value c.in_err-push_scalar.ensures.rejected)
 
 pub returns-clause-came : goal.returns-clause-came
 returns-clause-came g c =

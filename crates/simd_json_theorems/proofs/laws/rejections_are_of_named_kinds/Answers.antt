@@ -1,5 +1,5 @@
 use Rattle.simd_json_theorems.proofs.Faults.Kinds.{input-fault, token-fault, answer-fault, padded-fault}
-use Rattle.simd_json_theorems.proofs.laws.refusals_are_of_named_kinds.Goals as goal
+use Rattle.simd_json_theorems.proofs.laws.rejections_are_of_named_kinds.Goals as goal
 
 pub returns-clause-input : goal.returns-clause-input
 returns-clause-input c b e is = input-fault b e is

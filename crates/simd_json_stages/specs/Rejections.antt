@@ -26,12 +26,12 @@ error_type kinds.TrailingData = errors.TrailingData
 error_type kinds.DepthLimitExceeded = errors.DepthLimitExceeded
 
 -- of a token with this first byte that is no scalar
-abbrev pub refused_kind : ℕ → FaultKind
-refused_kind c = if c == 116 then kinds.ExpectedTrue else if c == 102 then kinds.ExpectedFalse else if c == 110 then
+abbrev pub rejected_kind : ℕ → FaultKind
+rejected_kind c = if c == 116 then kinds.ExpectedTrue else if c == 102 then kinds.ExpectedFalse else if c == 110 then
     kinds.ExpectedNull else kinds.InternalError
 
-abbrev pub number_refusal : List ℕ → ℕ → Fault
-number_refusal b i = record { kind = kinds.InvalidNumber; index = i; byte = byte_at b i }
+abbrev pub number_rejection : List ℕ → ℕ → Fault
+number_rejection b i = record { kind = kinds.InvalidNumber; index = i; byte = byte_at b i }
 
 -- it is of one of these kinds, and carries a character
 abbrev pub IsTokenFault : Error → Type 0

@@ -1,4 +1,4 @@
--- The steps of the machine that refuse a token: the fault is the whole descent's.
+-- The steps of the machine that reject a token: the fault is the whole descent's.
 use Rattle.std.proofs.Common.{inl, inr, ◌≡◌, ◌≢◌, refl, sym, ◌∙◌, ap, subst, ℕ, ◌+◌, ◌-◌, ◌<◌, ◌≤◌, List, [], ◌∷◌, ◌++◌, Bool, true, false}
 use Rattle.std.proofs.Common.{length-append, length, get_or, take, drop, cond, arith}
 use Rattle.std.specs.Prelude.{Ok, Err, if◌then◌else◌}
@@ -20,7 +20,7 @@ use Rattle.simd_json_stages.specs.Building.{closer, content_kind, end_kind, is_c
 use Rattle.simd_json_stages.specs.Building.{AfterValue, IsFirstFault}
 use Rattle.simd_json_stages.specs.Progresses.{IsNext}
 use Rattle.simd_json_stages.specs.Put.{IsBadString, IsNoScalar, IsStringPut}
-use Rattle.simd_json_stages.specs.Refusals.{error_type}
+use Rattle.simd_json_stages.specs.Rejections.{error_type}
 use Rattle.simd_json_stages.specs.declared.stage2.stack.Container.{Container}
 use Rattle.simd_json_stages.specs.declared.stage2.stack.Container.TheVariants.{Array, Object}
 use Rattle.simd_json_stages.specs.declared.stage2.progress.Progress.{Progress}
@@ -82,66 +82,66 @@ module _ (b ps : List ℕ) where
 -- ---- the faults
 
 -- the fault of this kind at a token
-abbrev pub RefusedAt : List ℕ → List ℕ → ℕ → FaultKind → ℕ → ℕ → Type 0
-RefusedAt b ps limit kind i x = IsFirstFault b ps limit (record { kind = kind; index = i; byte = x })
+abbrev pub RejectedAt : List ℕ → List ℕ → ℕ → FaultKind → ℕ → ℕ → Type 0
+RejectedAt b ps limit kind i x = IsFirstFault b ps limit (record { kind = kind; index = i; byte = x })
 
 module _ (b ps : List ℕ) (limit : ℕ) where
-  refused : (f : Fault) → whole b ps limit ≡ Err (fault_with (error_type f.kind) f.index f.byte) → IsFirstFault b ps limit f
-  refused f is = ap (λ r. r >>= root_end b (tokens_along b ps)) is
+  rejected : (f : Fault) → whole b ps limit ≡ Err (fault_with (error_type f.kind) f.index f.byte) → IsFirstFault b ps limit f
+  rejected f is = ap (λ r. r >>= root_end b (tokens_along b ps)) is
 
-  refused-here : (kind : FaultKind) (i x : ℕ) → x ≡ byte_at b i → whole b ps limit ≡ Err (fault_at b (error_type kind) i)
-      → RefusedAt b ps limit kind i x
-  refused-here kind i x first is = subst (RefusedAt b ps limit kind i) (sym first)
-      (refused (record { kind = kind; index = i; byte = byte_at b i }) is)
+  rejected-here : (kind : FaultKind) (i x : ℕ) → x ≡ byte_at b i → whole b ps limit ≡ Err (fault_at b (error_type kind) i)
+      → RejectedAt b ps limit kind i x
+  rejected-here kind i x first is = subst (RejectedAt b ps limit kind i) (sym first)
+      (rejected (record { kind = kind; index = i; byte = byte_at b i }) is)
 
 module _ {b ps : List ℕ} {limit : ℕ} {stack : List StackState} {nodes : List Item} {p : Progress} where
   -- one container too many
-  pub refuses-deep : (c : Container) → AtValue b ps limit stack nodes p → p.byte ≡ byte_at b p.at → limit ≤ p.depth
-      → p.byte + 2 ≡ closer c → RefusedAt b ps limit kinds.DepthLimitExceeded p.at p.byte
-  refuses-deep c at first l e =
+  pub rejects-deep : (c : Container) → AtValue b ps limit stack nodes p → p.byte ≡ byte_at b p.at → limit ≤ p.depth
+      → p.byte + 2 ≡ closer c → RejectedAt b ps limit kinds.DepthLimitExceeded p.at p.byte
+  rejects-deep c at first l e =
       let full : limit ≤ length at.opens = omega (arith, at.deep) in
       let is : form_at b p.at ≡ opening_form c = opening-form b c p.at (omega (arith, first, e)) in
-      refused-here b ps limit kinds.DepthLimitExceeded p.at p.byte first (at.same
+      rejected-here b ps limit kinds.DepthLimitExceeded p.at p.byte first (at.same
       ∙ ap (at_value b (missing b ps) limit at.opens) (along-form b p.at (drop p.read ps) (opening_form c) is (opening-goes_on c))
       ∙ container-too_deep b (missing b ps) limit c at.opens (token b p.at) (tokens_along b (drop p.read ps)) full is)
 
   -- nothing after an opening bracket
-  pub refuses-open_end : (c : Container) → AtValue b ps limit stack nodes p → p.byte ≡ byte_at b p.at → p.depth < limit
-      → p.byte + 2 ≡ closer c → p.read ≡ length ps → RefusedAt b ps limit kinds.Syntax p.at (byte_at b p.at)
-  refuses-open_end c at first l e end =
+  pub rejects-open_end : (c : Container) → AtValue b ps limit stack nodes p → p.byte ≡ byte_at b p.at → p.depth < limit
+      → p.byte + 2 ≡ closer c → p.read ≡ length ps → RejectedAt b ps limit kinds.Syntax p.at (byte_at b p.at)
+  rejects-open_end c at first l e end =
       let capacity : length at.opens < limit = omega (arith, at.deep) in
       let is : form_at b p.at ≡ opening_form c = opening-form b c p.at (omega (arith, first, e)) in
-      refused b ps limit (record { kind = kinds.Syntax; index = p.at; byte = byte_at b p.at }) (at.same
+      rejected b ps limit (record { kind = kinds.Syntax; index = p.at; byte = byte_at b p.at }) (at.same
       ∙ ap (at_value b (missing b ps) limit at.opens) (only b ps p.at p.read is (opening-goes_on c) end)
       ∙ container-open b (missing b ps) limit c at.opens (token b p.at) [] capacity is
       ∙ container-missing b (missing b ps) limit c at.opens
       ∙ ap Err (ends_at b ps at.before p.at p.read is (opening-goes_on c) end at.along))
 
-  -- a scalar that is refused, or a token that begins no value
-  pub refuses-scalar : (f : Fault) → AtValue b ps limit stack nodes p → IsNoScalar b p.at f → IsFirstFault b ps limit f
-  refuses-scalar f at (inl is) =
-      refused b ps limit f (at.same ∙ at_value-fault b (missing b ps) limit at.opens (token b p.at)
+  -- a scalar that is rejected, or a token that begins no value
+  pub rejects-scalar : (f : Fault) → AtValue b ps limit stack nodes p → IsNoScalar b p.at f → IsFirstFault b ps limit f
+  rejects-scalar f at (inl is) =
+      rejected b ps limit f (at.same ∙ at_value-fault b (missing b ps) limit at.opens (token b p.at)
       (cond (goes_on (form_at b p.at)) (tokens_along b (drop p.read ps)) []) (fault_with (error_type f.kind) f.index f.byte) is)
-  refuses-scalar f at (inr (none, is)) =
+  rejects-scalar f at (inr (none, is)) =
       subst (IsFirstFault b ps limit) (sym is)
-      (refused-here b ps limit kinds.InternalError p.at (byte_at b p.at) refl
+      (rejected-here b ps limit kinds.InternalError p.at (byte_at b p.at) refl
       (at.same ∙ at_value-unexpected b (missing b ps) limit at.opens (token b p.at)
       (cond (goes_on (form_at b p.at)) (tokens_along b (drop p.read ps)) []) (form_at b p.at) refl none))
 
   -- a bad string
-  pub refuses-string : (f : Fault) → AtValue b ps limit stack nodes p → p.byte ≡ byte_at b p.at → p.byte ≡ 34 → IsBadString b p.at f
+  pub rejects-string : (f : Fault) → AtValue b ps limit stack nodes p → p.byte ≡ byte_at b p.at → p.byte ≡ 34 → IsBadString b p.at f
       → IsFirstFault b ps limit f
-  refuses-string f at first e bad =
+  rejects-string f at first e bad =
       let error : Error = fault_with (error_type f.kind) f.index f.byte in
-      refused b ps limit f (at.same ∙ at_value-string_fault b (missing b ps) limit at.opens (token b p.at)
+      rejected b ps limit f (at.same ∙ at_value-string_fault b (missing b ps) limit at.opens (token b p.at)
       (cond (goes_on (form_at b p.at)) (tokens_along b (drop p.read ps)) []) error
       (quotes b p.at (sym first ∙ e) ∙ ap string_token bad))
 
   -- after a member nothing is left
-  pub refuses-end : AfterValue b ps limit stack nodes p → 0 < p.depth → p.read ≡ length ps
-      → RefusedAt b ps limit kinds.Syntax p.at (byte_at b p.at)
-  refuses-end at l end =
-      refused b ps limit (record { kind = kinds.Syntax; index = p.at; byte = byte_at b p.at })
+  pub rejects-end : AfterValue b ps limit stack nodes p → 0 < p.depth → p.read ≡ length ps
+      → RejectedAt b ps limit kinds.Syntax p.at (byte_at b p.at)
+  rejects-end at l end =
+      rejected b ps limit (record { kind = kinds.Syntax; index = p.at; byte = byte_at b p.at })
       (at.same ∙ ap (λ us. after_value b (missing b ps) limit at.opens at.last (tokens_along b us)) (nothing_left b ps p.read end)
       ∙ go at.opens at.deep ∙ ap Err (missing-at b ps at.before p.at (at_end b ps at.before p.read end at.along) at.reached))
     where
@@ -150,11 +150,11 @@ module _ {b ps : List ℕ} {limit : ℕ} {stack : List StackState} {nodes : List
       go (o ∷ outer) deep = after_value-none b (missing b ps) limit o outer at.last
 
   -- after a comma nothing is left
-  pub refuses-comma_end : {q : Progress} → AfterValue b ps limit stack nodes p → 0 < p.depth → IsNext b ps p q → q.byte ≡ 44
-      → q.read ≡ length ps → RefusedAt b ps limit kinds.Syntax q.at (byte_at b q.at)
-  refuses-comma_end at l n e end' =
-      subst (λ (q : Progress). RefusedAt b ps limit kinds.Syntax q.at (byte_at b q.at)) (sym n.same)
-      (refused b ps limit (record { kind = kinds.Syntax; index = i; byte = byte_at b i })
+  pub rejects-comma_end : {q : Progress} → AfterValue b ps limit stack nodes p → 0 < p.depth → IsNext b ps p q → q.byte ≡ 44
+      → q.read ≡ length ps → RejectedAt b ps limit kinds.Syntax q.at (byte_at b q.at)
+  rejects-comma_end at l n e end' =
+      subst (λ (q : Progress). RejectedAt b ps limit kinds.Syntax q.at (byte_at b q.at)) (sym n.same)
+      (rejected b ps limit (record { kind = kinds.Syntax; index = i; byte = byte_at b i })
       (at.same ∙ ap (after_value b (missing b ps) limit at.opens at.last) (next b ps p.read n.more ∙ only b ps i (p.read + 1) is refl end)
       ∙ go at.opens at.deep
       ∙ ap Err (ends_at b ps at.before i (p.read + 1) is refl end (reached_next b ps at.before p.read n.more at.along))))
@@ -176,11 +176,11 @@ module _ {b ps : List ℕ} {limit : ℕ} {stack : List StackState} {nodes : List
           ∙ at_name-missing b (missing b ps) limit ExpectedObjectKey (ms ++ (name, at.last) ∷ []) outer
 
   -- another token after a member
-  pub refuses-other : {q : Progress} → AfterValue b ps limit stack nodes p → 0 < p.depth → IsNext b ps p q → q.byte ≢ 44
-      → q.byte ≢ closer p.container → RefusedAt b ps limit (content_kind p.container) q.at q.byte
-  refuses-other at l n comma' other' =
-      subst (λ (q : Progress). RefusedAt b ps limit (content_kind p.container) q.at q.byte) (sym n.same)
-      (refused b ps limit (record { kind = content_kind p.container; index = i; byte = byte_at b i })
+  pub rejects-other : {q : Progress} → AfterValue b ps limit stack nodes p → 0 < p.depth → IsNext b ps p q → q.byte ≢ 44
+      → q.byte ≢ closer p.container → RejectedAt b ps limit (content_kind p.container) q.at q.byte
+  rejects-other at l n comma' other' =
+      subst (λ (q : Progress). RejectedAt b ps limit (content_kind p.container) q.at q.byte) (sym n.same)
+      (rejected b ps limit (record { kind = content_kind p.container; index = i; byte = byte_at b i })
       (at.same ∙ ap (after_value b (missing b ps) limit at.opens at.last) (next b ps p.read n.more)
       ∙ go at.opens at.deep p.container at.holds (λ is. other' (sym (next-byte n) ∙ is))))
     where
@@ -205,12 +205,12 @@ module _ {b ps : List ℕ} {limit : ℕ} {stack : List StackState} {nodes : List
           at.last (token b i) ts (form_at b i) refl (no_member_ending b i other comma)
 
   -- something after the root
-  pub refuses-trailing : AfterValue b ps limit stack nodes p → p.depth ≡ 0 → p.byte ≡ byte_at b p.at → p.read < length ps
-      → RefusedAt b ps limit (end_kind (is_closing p.byte)) p.at p.byte
-  refuses-trailing at root byte k =
+  pub rejects-trailing : AfterValue b ps limit stack nodes p → p.depth ≡ 0 → p.byte ≡ byte_at b p.at → p.read < length ps
+      → RejectedAt b ps limit (end_kind (is_closing p.byte)) p.at p.byte
+  rejects-trailing at root byte k =
       let i : ℕ = get_or ps p.read 0 in
       let rest : List Token = tokens_along b (drop p.read ps) in
-      subst (λ x. RefusedAt b ps limit (end_kind (is_closing x)) p.at x) (sym byte)
+      subst (λ x. RejectedAt b ps limit (end_kind (is_closing x)) p.at x) (sym byte)
       (ap (λ r. r >>= root_end b (tokens_along b ps)) (root-whole at root).1
       ∙ left_over b ps at.before rest (token b i) (cond (goes_on (form_at b i)) (tokens_along b (drop (p.read + 1) ps)) [])
       at.last at.along (next b ps p.read k)
@@ -219,20 +219,20 @@ module _ {b ps : List ℕ} {limit : ℕ} {stack : List StackState} {nodes : List
       ∙ ap (λ kind. Err (fault_at b kind p.at)) (kind-of (is_closing (byte_at b p.at))))
 
   -- no name where one is expected
-  pub refuses-no_name : (kind : FaultKind) → AtName b ps limit (error_type kind) stack nodes p → p.byte ≡ byte_at b p.at
-      → p.byte ≢ 34 → RefusedAt b ps limit kind p.at p.byte
-  refuses-no_name kind at first other =
-      refused-here b ps limit kind p.at p.byte first
+  pub rejects-no_name : (kind : FaultKind) → AtName b ps limit (error_type kind) stack nodes p → p.byte ≡ byte_at b p.at
+      → p.byte ≢ 34 → RejectedAt b ps limit kind p.at p.byte
+  rejects-no_name kind at first other =
+      rejected-here b ps limit kind p.at p.byte first
       (at.same ∙ at_name-other b (missing b ps) limit (error_type kind) at.members at.outer (token b p.at)
       (cond (goes_on (form_at b p.at)) (tokens_along b (drop p.read ps)) []) (form_at b p.at) refl
       (no_string b p.at (λ is. other (first ∙ is))))
 
   module _ {kind : ErrorType} (at : AtName b ps limit kind stack nodes p) (first : p.byte ≡ byte_at b p.at) (quote : p.byte ≡ 34) where
     -- a bad name
-    pub refuses-name : (f : Fault) → IsBadString b p.at f → IsFirstFault b ps limit f
-    refuses-name f bad =
+    pub rejects-name : (f : Fault) → IsBadString b p.at f → IsFirstFault b ps limit f
+    rejects-name f bad =
         let error : Error = fault_with (error_type f.kind) f.index f.byte in
-        refused b ps limit f (at.same ∙ at_name-fault b (missing b ps) limit kind at.members at.outer (token b p.at)
+        rejected b ps limit f (at.same ∙ at_name-fault b (missing b ps) limit kind at.members at.outer (token b p.at)
         (cond (goes_on (form_at b p.at)) (tokens_along b (drop p.read ps)) []) error
         (quotes b p.at (sym first ∙ quote) ∙ ap string_token bad))
 
@@ -242,19 +242,19 @@ module _ {b ps : List ℕ} {limit : ℕ} {stack : List StackState} {nodes : List
       named = quotes b p.at (sym first ∙ quote) ∙ ap string_token put.read
 
       -- nothing
-      pub refuses-name_end : p.read ≡ length ps → RefusedAt b ps limit kinds.Syntax p.at (byte_at b p.at)
-      refuses-name_end none =
-          refused b ps limit (record { kind = kinds.Syntax; index = p.at; byte = byte_at b p.at })
+      pub rejects-name_end : p.read ≡ length ps → RejectedAt b ps limit kinds.Syntax p.at (byte_at b p.at)
+      rejects-name_end none =
+          rejected b ps limit (record { kind = kinds.Syntax; index = p.at; byte = byte_at b p.at })
           (at.same ∙ ap (at_name b (missing b ps) limit kind at.members at.outer) (only b ps p.at p.read named refl none)
           ∙ at_name-no_more b (missing b ps) limit kind at.members at.outer (token b p.at) put.string put.end named
           ∙ ap Err (ends_at b ps at.before p.at p.read named refl none at.along))
 
       -- no colon
-      pub refuses-no_colon : {q : Progress} → IsNext b ps p q → q.byte ≢ 58 → RefusedAt b ps limit kinds.ExpectedObjectColon q.at q.byte
-      refuses-no_colon n other =
+      pub rejects-no_colon : {q : Progress} → IsNext b ps p q → q.byte ≢ 58 → RejectedAt b ps limit kinds.ExpectedObjectColon q.at q.byte
+      rejects-no_colon n other =
           let i : ℕ = get_or ps p.read 0 in
-          subst (λ (q : Progress). RefusedAt b ps limit kinds.ExpectedObjectColon q.at q.byte) (sym n.same)
-          (refused b ps limit (record { kind = kinds.ExpectedObjectColon; index = i; byte = byte_at b i })
+          subst (λ (q : Progress). RejectedAt b ps limit kinds.ExpectedObjectColon q.at q.byte) (sym n.same)
+          (rejected b ps limit (record { kind = kinds.ExpectedObjectColon; index = i; byte = byte_at b i })
           (at.same ∙ ap (at_name b (missing b ps) limit kind at.members at.outer)
           (along-form b p.at (drop p.read ps) (string_token (Ok (put.string, put.end))) named refl
           ∙ ap (λ us. token b p.at ∷ us) (next b ps p.read n.more))
@@ -263,15 +263,15 @@ module _ {b ps : List ℕ} {limit : ℕ} {stack : List StackState} {nodes : List
           (no_colon b i (λ is. other (sym (next-byte n) ∙ is)))))
 
       -- nothing after a colon
-      pub refuses-colon_end : {q : Progress} → IsNext b ps p q → q.byte ≡ 58 → q.read ≡ length ps
-          → RefusedAt b ps limit kinds.Syntax q.at (byte_at b q.at)
-      refuses-colon_end n colon none' =
+      pub rejects-colon_end : {q : Progress} → IsNext b ps p q → q.byte ≡ 58 → q.read ≡ length ps
+          → RejectedAt b ps limit kinds.Syntax q.at (byte_at b q.at)
+      rejects-colon_end n colon none' =
           let i : ℕ = get_or ps p.read 0 in
           let is : form_at b i ≡ name_separator = colons b i (next-byte n ∙ colon) in
           let none : p.read + 1 ≡ length ps = omega (arith, next-read n, none') in
           let before : List Token = at.before ++ token b p.at ∷ [] in
-          subst (λ (q : Progress). RefusedAt b ps limit kinds.Syntax q.at (byte_at b q.at)) (sym n.same)
-          (refused b ps limit (record { kind = kinds.Syntax; index = i; byte = byte_at b i })
+          subst (λ (q : Progress). RejectedAt b ps limit kinds.Syntax q.at (byte_at b q.at)) (sym n.same)
+          (rejected b ps limit (record { kind = kinds.Syntax; index = i; byte = byte_at b i })
           (at.same ∙ ap (at_name b (missing b ps) limit kind at.members at.outer)
           (along-form b p.at (drop p.read ps) (string_token (Ok (put.string, put.end))) named refl
           ∙ ap (λ us. token b p.at ∷ us) (next b ps p.read n.more ∙ only b ps i (p.read + 1) is refl none))
