@@ -2,13 +2,14 @@
 use Rattle.std.proofs.Common.{◌≡◌, ◌≢◌, refl, sym, ◌∙◌, ap, subst, ℕ, zero, suc, ◌+◌, ◌-◌, ◌<◌, ◌≤◌, inl, inr, List, [], ◌∷◌, ◌++◌, length}
 use Rattle.std.proofs.Common.{take, drop, get_or, Bool, true, false, cond, not, ◌||◌, ◌&&◌, ◌==◌, nat_eq, bytes_eq, ◌%◌, ◌^◌}
 use Rattle.std.proofs.Common.{map, w8, arith}
-use Rattle.std.specs.Prelude.{Some, None, Option}
+use Rattle.std.specs.Prelude.{Some, None, Option, is_some, option_map}
 use Rattle.std.specs.List.{prefix_len}
 use Rattle.std.proofs.lemmas.Bool.{cases_Bool, cases_eq, cases_lt, eqb-true, ne_eqb, eq-eqb, false≢true, false_from_ne_true}
 use Rattle.std.proofs.lemmas.List.{length-drop, drop-drop, get_or-drop, get_or-take, length-take-le}
 use Rattle.std.proofs.lemmas.List.Sums.{prefix_len_stops, prefix_len_passes}
 use Rattle.std.proofs.lemmas.Slice.Eq.{bytes_eq-Decides}
 use Rattle.simd_json_parts.specs.Bytes.{quote, byte_at}
+use Rattle.simd_json_parts.proofs.Pointers.Keys.{no-bytes}
 use Rattle.simd_json_parts.specs.StringAt.{closing_quote, read_pieces, string_read, string_at, escape_at}
 use Rattle.simd_json_scalars.specs.StringContent.{content, is_plain, is_stop, with_prefix}
 use Rattle.simd_json_scalars.proofs.Strings.Content.{content-byte, content-quote, closing_quote-content, string_at-content}
@@ -18,7 +19,7 @@ use Rattle.simd_json_scalars.proofs.Strings.Reader.{content-closed, read_pieces-
 use Rattle.simd_json_scalars.proofs.Strings.Steps.{PassesPieces, plain-passes, escape-passes, escape-stops}
 use Rattle.simd_json_ondemand.proofs.Quoted.{stop-other}
 use Rattle.simd_json_ondemand.specs.Keys.{is_key}
-use Rattle.simd_json_ondemand.specs.Wanted.{AgreesTo, IsWanted, names, read_string}
+use Rattle.simd_json_ondemand.specs.Wanted.{AgreesTo, IsWanted, key_of, names, read_string}
 use lib.Lanes.{zip2, mask_l, top}
 use lib.Count.{count_trailing_zeros}
 use Rattle.std.proofs.lemmas.Simd.{tops_compared, mask_l-mod, length-zip2, leading_from_mask_l, trailing_mask_l}
@@ -143,6 +144,52 @@ module _ (bs key : List ℕ) (from : ℕ) (left : List ℕ) (c : IsCompared bs k
                 ∙ names-prefix s left _ ∙ ap (λ us. names left (read_pieces 0 (content us))) behind;
             closed = omega (arith, stop-closed, q.size, ap (λ us. length (content us)) slash.is, ap (λ us. length (content us)) behind);
           }
+
+-- ---- a string and a key, or a token
+
+-- what is left is compared as the key that the whole is
+pub record IsRead (token : Bool) (bs written : List ℕ) (from : ℕ) (left : List ℕ) : Type 0 where
+  pub key : List ℕ
+  pub is : key_of token written ≡ Some key
+  pub rest : List ℕ
+  pub left_is : key_of token left ≡ Some rest
+  pub compared : IsCompared bs key from rest
+
+pub some-of : (o : Option (List ℕ)) → is_some o ≡ true → (k : List ℕ) × (o ≡ Some k)
+some-of None is = absurd (false≢true is)
+some-of (Some k) is = (k, refl)
+
+pub read-from-quote : (token : Bool) (bs written : List ℕ) → byte_at bs 0 ≡ quote → closing_quote bs 0 < length bs
+    → is_some (key_of token written) ≡ true → IsRead token bs written 1 written
+read-from-quote token bs written e l formed =
+    let k = some-of (key_of token written) formed in
+    record { key = k.0; is = k.1; rest = k.0; left_is = k.1; compared = from-quote bs k.0 e l }
+
+-- whichever key it is said to be
+pub written-is : (o : Option (List ℕ)) (key : List ℕ) (r : Option (List ℕ)) (b : Bool) → o ≡ Some key → b ≡ is_key key r
+    → (k : List ℕ) → o ≡ Some k → b ≡ is_key k r
+written-is o key r b is test k named = let same : key ≡ k = cc in test ∙ ap (λ x. is_key x r) same
+
+-- a prefix that is taken off what is written is one of the key
+pub key-split : (rest xs : List ℕ) (left others : Option (List ℕ)) → left ≡ Some rest → left ≡ option_map (λ k. xs ++ k) others
+    → (k : List ℕ) × (others ≡ Some k) × (rest ≡ xs ++ k)
+key-split rest xs left others is split = go others (sym split ∙ is)
+  where
+    go : (o : Option (List ℕ)) → option_map (λ k. xs ++ k) o ≡ Some rest → (k : List ℕ) × (o ≡ Some k) × (rest ≡ xs ++ k)
+    go None none = cc
+    go (Some k) some = let same : xs ++ k ≡ rest = cc in (k, refl, sym same)
+
+pub key-other : (rest xs : List ℕ) (left : Option (List ℕ)) → left ≡ Some rest → ((k : List ℕ) → left ≡ Some (xs ++ k) → ⊥)
+    → (k : List ℕ) → rest ≢ xs ++ k
+key-other rest xs left is never k e = never k (is ∙ ap Some e)
+
+pub both-empty : (token : Bool) (t k : List ℕ) → key_of token t ≡ Some k → (length t == 0) ≡ (length k == 0)
+both-empty false t k is = let same : t ≡ k = cc in ap (λ xs. length xs == 0) same
+both-empty true [] [] is = refl
+both-empty true [] (x ∷ k) is = cc
+both-empty true (c ∷ t) [] is = let none : c ∷ t ≡ [] = no-bytes (c ∷ t) is in cc
+both-empty true (c ∷ t) (x ∷ k) is =
+    ne_eqb (suc (length t)) 0 (λ e. omega (arith, e)) ∙ sym (ne_eqb (suc (length k)) 0 (λ e. omega (arith, e)))
 
 -- ---- a key that is written as it is
 

@@ -1,80 +1,30 @@
 -- A JSON Pointer, over values of documents.
-use Rattle.std.proofs.Common.{◌≡◌, ◌≢◌, refl, sym, ◌∙◌, ap, ℕ, suc, ◌+◌, ◌<◌, ◌≤◌, List, [], ◌∷◌, ◌++◌, length}
-use Rattle.std.proofs.Common.{drop, Bool, true, false, ◌==◌, arith}
+use Rattle.std.proofs.Common.{◌≡◌, refl, sym, ◌∙◌, ap, ℕ, ◌+◌, ◌<◌, ◌≤◌, List, length}
+use Rattle.std.proofs.Common.{drop, true, false, ◌==◌, arith}
 use Rattle.std.specs.Prelude.{Option, Some, None, is_some, option_map, option_and_then, ◌^◌}
 use Rattle.std.specs.List.{slice_range}
 use Rattle.std.specs.Result.{result_ok}
-use Rattle.std.proofs.lemmas.Bool.{eqb-true, ne_eqb, false≢true}
+use Rattle.std.proofs.lemmas.Bool.{eqb-true}
 use Rattle.std.proofs.lemmas.List.{length-drop, length-map}
-use Rattle.simd_json_parts.specs.Bytes.{quote, byte_at}
+use Rattle.simd_json_parts.specs.Bytes.{byte_at}
 use Rattle.simd_json_parts.specs.Document.{Document, array, object, Elements, elements, Members}
 use Rattle.simd_json_parts.specs.Followed.{IsTokenAt, first_step, fits_64}
 use Rattle.simd_json_parts.specs.Pointed.{array_index, member_at, named, pointed, pointed_from, unescaped}
-use Rattle.simd_json_parts.specs.StringAt.{closing_quote}
 use Rattle.simd_json_parts.specs.Views.{as_array, get_idx, is_array}
-use Rattle.simd_json_parts.proofs.Pointers.Keys.{no-bytes}
 use Rattle.simd_json_parts.proofs.Pointers.Pointed.{element-fits, element-past, further, member-here, member-later, member-none}
 use Rattle.simd_json_parts.proofs.Pointers.Pointed.{some-left, stop-of}
 use Rattle.simd_json_parts.proofs.Pointers.Pointed as pointed
 use Rattle.simd_json_ondemand.specs.Docs.{doc, index_of, places, text}
 use Rattle.simd_json_ondemand.specs.Iterated.{all_some}
-use Rattle.simd_json_ondemand.specs.Keys.{is_key}
 use Rattle.simd_json_ondemand.specs.Viewed.{read_along}
 use Rattle.simd_json_ondemand.specs.Walks.{element_ahead, elements_walk, items, whole}
 use Rattle.simd_json_ondemand.specs.declared.array.Position.TheVariants.{First, AtValue}
 use Rattle.simd_json_ondemand.specs.declared.value.Value.{Value}
 use Rattle.simd_json_ondemand.proofs.Agreement.{array-is, begins-at}
-use Rattle.simd_json_ondemand.proofs.Keys.{IsCompared, from-quote}
 use Rattle.simd_json_ondemand.proofs.Standing.{opens_array_byte}
 use Rattle.simd_json_ondemand.proofs.WalkViews.{elements-found}
 use Rattle.simd_json_ondemand.proofs.Walks.{few-items, items-whole}
 use Rattle.simd_json_check.proofs.Whole.{few-positions, right-input}
-
--- ---- a string and a token
-
--- what is left of the token is compared as the key that the whole of it is
-pub record IsTokenCompared (bs token : List ℕ) (from : ℕ) (left : List ℕ) : Type 0 where
-  pub key : List ℕ
-  pub is : unescaped token ≡ Some key
-  pub rest : List ℕ
-  pub left_is : unescaped left ≡ Some rest
-  pub compared : IsCompared bs key from rest
-
-pub some-of : (o : Option (List ℕ)) → is_some o ≡ true → (k : List ℕ) × (o ≡ Some k)
-some-of None is = absurd (false≢true is)
-some-of (Some k) is = (k, refl)
-
-pub token-from-quote : (bs token : List ℕ) → byte_at bs 0 ≡ quote → closing_quote bs 0 < length bs → is_some (unescaped token) ≡ true
-    → IsTokenCompared bs token 1 token
-token-from-quote bs token e l formed =
-    let k = some-of (unescaped token) formed in
-    record { key = k.0; is = k.1; rest = k.0; left_is = k.1; compared = from-quote bs k.0 e l }
-
--- whichever key the token is said to be
-pub written-is : (token key : List ℕ) (r : Option (List ℕ)) (b : Bool) → unescaped token ≡ Some key → b ≡ is_key key r
-    → (k : List ℕ) → unescaped token ≡ Some k → b ≡ is_key k r
-written-is token key r b is test k named = let same : key ≡ k = cc in test ∙ ap (λ x. is_key x r) same
-
--- a prefix that is taken off the token is one of the key
-split-by : (xs rest : List ℕ) (o : Option (List ℕ)) → option_map (λ k. xs ++ k) o ≡ Some rest
-    → (k : List ℕ) × (o ≡ Some k) × (rest ≡ xs ++ k)
-split-by xs rest None is = cc
-split-by xs rest (Some k) is = let same : xs ++ k ≡ rest = cc in (k, refl, sym same)
-
-pub key-split : (left rest xs others : List ℕ) → unescaped left ≡ Some rest → unescaped left ≡ option_map (λ k. xs ++ k) (unescaped others)
-    → (k : List ℕ) × (unescaped others ≡ Some k) × (rest ≡ xs ++ k)
-key-split left rest xs others is split = split-by xs rest (unescaped others) (sym split ∙ is)
-
-pub key-other : (left rest xs : List ℕ) → unescaped left ≡ Some rest → ((k : List ℕ) → unescaped left ≡ Some (xs ++ k) → ⊥)
-    → (k : List ℕ) → rest ≢ xs ++ k
-key-other left rest xs is never k e = never k (is ∙ ap Some e)
-
-pub both-empty : (t k : List ℕ) → unescaped t ≡ Some k → (length t == 0) ≡ (length k == 0)
-both-empty [] [] is = refl
-both-empty [] (x ∷ k) is = cc
-both-empty (c ∷ t) [] is = let none : c ∷ t ≡ [] = no-bytes (c ∷ t) is in cc
-both-empty (c ∷ t) (x ∷ k) is =
-    ne_eqb (suc (length t)) 0 (λ e. omega (arith, e)) ∙ sym (ne_eqb (suc (length k)) 0 (λ e. omega (arith, e)))
 
 -- ---- elements
 

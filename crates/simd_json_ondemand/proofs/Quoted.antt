@@ -24,7 +24,7 @@ use Rattle.simd_json_parts.specs.Views.{as_str}
 use Rattle.simd_json_parts.specs.declared.error.Error.{Error}
 use Rattle.simd_json_scalars.specs.StringDecoded.{IsDecoded}
 use Rattle.simd_json_scalars.specs.StringRead.{further}
-use Rattle.simd_json_ondemand.specs.Docs.{text, places, index_of, HasEscape}
+use Rattle.simd_json_ondemand.specs.Docs.{text, places, index_of, HasEscape, string_len}
 use Rattle.simd_json_check.specs.Scanned.{IsScanned}
 use Rattle.simd_json_check.specs.Scalars.{scalar_of}
 use Rattle.simd_json_ondemand.specs.declared.value.Value.{Value}
@@ -207,6 +207,20 @@ has-escape v bs is first end e other =
       omega (arith, e),
       omega (arith, before.within, closing),
       sym (get_or-drop i b end 32) ∙ ap (λ us. byte_at us end) (sym is) ∙ escape,
+    )
+
+-- how long it is
+pub written-len : (v : Value) → byte_at (text v.document) (index_of v) ≡ quote → (bs : List ℕ)
+    → bs ≡ drop (index_of v) (text v.document) → (end : ℕ) → end ≡ closing_quote bs 0 → length (take (end + 1) bs) ≡ string_len v
+written-len v first bs is end closing =
+    let b : List ℕ = text v.document in
+    let i : ℕ = index_of v in
+    let q : IsQuoted bs = quoted-value v first bs is in
+    omega (
+      arith,
+      length-take-le (end + 1) bs (omega (arith, closing, q.closing)),
+      closing,
+      closing_quote-further b i first ∙ ap (λ us. i + closing_quote us 0) (sym is),
     )
 
 first-decoded : (bs : List ℕ) → IsQuoted bs → (end : ℕ) → end ≡ 1 + prefix_len is_plain (drop 1 bs) → IsDecoded bs 1 1 bs end end

@@ -33,7 +33,8 @@ use Rattle.simd_json_ondemand.specs.declared.unexpected.Expected.TheVariants.{Co
 use Rattle.simd_json_ondemand.specs.declared.unexpected.Unexpected.{Unexpected}
 use Rattle.simd_json_ondemand.specs.declared.value.Value.{Value}
 use Rattle.simd_json_ondemand.specs.declared.walk.Stop.{Stop}
-use Rattle.simd_json_ondemand.proofs.Pointers.{element-named, element-nowhere, malformed-named, some-of}
+use Rattle.simd_json_ondemand.proofs.Keys.{some-of}
+use Rattle.simd_json_ondemand.proofs.Pointers.{element-named, element-nowhere, malformed-named}
 use Rattle.simd_json_ondemand.proofs.WalkViews.{opens-array, opens-object, array-whole, object-whole}
 use Rattle.simd_json_ondemand.proofs.Walks.{past-whole, whole-with}
 

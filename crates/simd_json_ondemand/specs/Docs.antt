@@ -1,5 +1,6 @@
 -- What contracts see of a document and of a value.
-use Rattle.std.specs.Prelude.{◌≡◌, ◌<◌, ℕ, List, drop, slice_index, slice_range, Option, None, option_map, option_and_then, if◌then◌else◌}
+use Rattle.std.specs.Prelude.{◌≡◌, ◌<◌, ◌+◌, ◌-◌, ℕ, List, drop, slice_index, slice_range, Option, None, option_map, option_and_then}
+use Rattle.std.specs.Prelude.{if◌then◌else◌}
 use Rattle.simd_json_parts.specs.Accessors.{Accessor, as_t}
 use Rattle.simd_json_parts.specs.Bytes.{backslash, byte_at}
 use Rattle.simd_json_parts.specs.Document as parts
@@ -59,3 +60,7 @@ kind v = kind_of (form v)
 abbrev pub HasEscape : Value → Type 0
 HasEscape v = let b = text v.document in
     (j : ℕ) × (index_of v < j) × (j < closing_quote b (index_of v)) × (byte_at b j ≡ backslash)
+
+-- how many bytes the string there has as it is written, with its quotes
+abbrev pub string_len : Value → ℕ
+string_len v = closing_quote (text v.document) (index_of v) + 1 - index_of v

@@ -3,12 +3,18 @@ use Rattle.std.specs.Prelude.{◌≡◌, ◌≢◌, ◌<◌, ◌≤◌, ℕ, Lis
 use Rattle.std.specs.Prelude.{Option, Some, None, Result, Ok, Err, IsTrue, bytes_eq}
 use Rattle.simd_json_parts.specs.Bytes.{quote}
 use Rattle.simd_json_parts.specs.declared.error.Error.{Error}
+use Rattle.simd_json_parts.specs.Pointed.{unescaped}
 use Rattle.simd_json_scalars.specs.StringContent.{is_plain}
 
 -- the string that is read, if one is
 abbrev pub read_string : Result (List ℕ × ℕ) Error → Option (List ℕ)
 read_string (Ok r) = Some r.0
 read_string (Err e) = None
+
+-- the key: the bytes themselves, or what they are as a reference token of a JSON Pointer
+abbrev pub key_of : Bool → List ℕ → Option (List ℕ)
+key_of true token = unescaped token
+key_of false key = Some key
 
 -- whether pieces are read to their end, as the key
 abbrev pub names : List ℕ → List ℕ × List ℕ → Bool

@@ -1,15 +1,17 @@
-//! Compares strings of the input with a key, as they are written: nothing is decoded into memory.
+//! Compares strings of the input with a key, or with a reference token of a JSON Pointer, as they
+//! are written: nothing is decoded into memory.
 ghost use Rattle.std.specs.Prelude.{◌≡◌, ◌<◌, ◌≤◌, ◌+◌, ◌++◌, ℕ, List, length, get_or};
-ghost use Rattle.std.specs.Prelude.{IsTrue, MatchOption, Some, map, true};
+ghost use Rattle.std.specs.Prelude.{IsTrue, MatchOption, Some, is_some, map, option_map, true};
 ghost use Rattle.std.specs.Simd.Lanes.{mask_l};
 ghost use Rattle.simd_json_ondemand.specs.Keys.{is_key};
-ghost use Rattle.simd_json_ondemand.specs.Wanted.{AgreesTo, IsWanted, read_string};
+ghost use Rattle.simd_json_ondemand.specs.Wanted.{AgreesTo, IsWanted, key_of, read_string};
 ghost use Rattle.simd_json_parts.specs.Bytes.{byte_at, quote};
 ghost use Rattle.simd_json_parts.specs.StringAt.{closing_quote, escape_at, string_at};
 ghost use Rattle.simd_json_scalars.specs.StringContent.{is_plain, is_stop};
 
 use crate::strings::plain_end;
 use simd_json_parts::charutils::codepoint_to_utf8;
+use simd_json_parts::pointer::strip_decoded;
 use simd_json_scalars::stringparse::escape;
 use std::simd::prelude::*;
 
@@ -53,13 +55,13 @@ impl<'k> Wanted<'k> {
         ensures { result ≡ is_key self.entry.key.now (read_string (string_at bytes.now 0)) }
     {
         if !self.is_plain || bytes.len() < 9 {
-            return is_written(bytes, self.key);
+            return is_written::<false>(bytes, self.key);
         }
         let same = common(u8x8::from_slice(&bytes[1..]), self.first);
         if same < 8 && same <= self.key.len() {
-            return bytes[1 + same] == b'\\' && is_written(bytes, self.key);
+            return bytes[1 + same] == b'\\' && is_written::<false>(bytes, self.key);
         }
-        self.key.len() < 8 || is_written(bytes, self.key)
+        self.key.len() < 8 || is_written::<false>(bytes, self.key)
     }
 }
 
@@ -119,25 +121,27 @@ fn byte_or_quote(key: &[u8], k: usize) -> u8
     if k < key.len() { key[k] } else { b'"' }
 }
 
-// Whether the string whose opening quote is the first byte is the key: runs of plain bytes, and
-// the characters of escapes, are taken off the key.
+// Whether the string whose opening quote is the first byte is the key, or the key that a reference
+// token is: runs of plain bytes, and the characters of escapes, are taken off it.
 #[inline(never)]
-fn is_written(bytes: &[u8], key: &[u8]) -> bool
+pub(crate) fn is_written<const TOKEN: bool>(bytes: &[u8], key: &[u8]) -> bool
     requires opening { byte_at bytes.now 0 ≡ quote }
     requires closing { closing_quote bytes.now 0 < length bytes.now }
-    ensures { result ≡ is_key key.now (read_string (string_at bytes.now 0)) }
+    requires formed { is_some (key_of TOKEN key.now) ≡ true }
+    ensures { (k : List ℕ) → key_of TOKEN key.now ≡ Some k
+        → result ≡ is_key k (read_string (string_at bytes.now 0)) }
 {
     let mut from = 1;
     let mut left = key;
     loop {
         let end = plain_end(bytes, from);
-        let Some(rest) = left.strip_prefix(&bytes[from..end]) else {
+        let Some(rest) = strip::<TOKEN>(left, &bytes[from..end]) else {
             return false;
         };
         if bytes[end] == b'"' {
             return rest.is_empty();
         }
-        let Some((rest, more)) = after_escape(&bytes[end..], rest) else {
+        let Some((rest, more)) = after_escape::<TOKEN>(&bytes[end..], rest) else {
             return false;
         };
         left = rest;
@@ -149,16 +153,32 @@ fn is_written(bytes: &[u8], key: &[u8]) -> bool
 // escape follow the backslash.
 #[cold]
 #[inline(never)]
-fn after_escape<'k>(bytes: &[u8], key: &'k [u8]) -> Option<(&'k [u8], usize)>
+fn after_escape<'k, const TOKEN: bool>(bytes: &[u8], key: &'k [u8]) -> Option<(&'k [u8], usize)>
     requires { 2 ≤ length bytes.now }
     ensures { MatchOption result
-        ((p : List ℕ × ℕ) (rest : List ℕ) → escape_at bytes.now ≡ Some p
-        → key.now ≡ p.0 ++ rest → ⊥)
-        (λ r. (s : List ℕ) × (escape_at bytes.now ≡ Some (s, r.1)) × (key.now ≡ s ++ r.0.now)) }
+        ((p : List ℕ × ℕ) (k : List ℕ) → escape_at bytes.now ≡ Some p
+        → key_of TOKEN key.now ≡ Some (p.0 ++ k) → ⊥)
+        (λ r. (s : List ℕ) × (escape_at bytes.now ≡ Some (s, r.1))
+        × (key_of TOKEN key.now ≡ option_map (λ k. s ++ k) (key_of TOKEN r.0.now))) }
 {
     let (character, more) = escape(bytes)?;
     let mut utf8 = [0; 4];
     let len = codepoint_to_utf8(character, &mut utf8);
-    let rest = key.strip_prefix(&utf8[..len])?;
+    let rest = strip::<TOKEN>(key, &utf8[..len])?;
     Some((rest, more))
+}
+
+// What is left of the key after its front, if it begins with that.
+#[inline(always)]
+fn strip<'k, const TOKEN: bool>(key: &'k [u8], front: &[u8]) -> Option<&'k [u8]>
+    ensures { MatchOption result
+        ((k : List ℕ) → key_of TOKEN key.now ≡ Some (front.now ++ k) → ⊥)
+        (λ rest. key_of TOKEN key.now
+        ≡ option_map (λ k. front.now ++ k) (key_of TOKEN rest.now)) }
+{
+    if TOKEN {
+        strip_decoded(key, front)
+    } else {
+        key.strip_prefix(front)
+    }
 }

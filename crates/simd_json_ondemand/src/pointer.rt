@@ -6,14 +6,12 @@ ghost use Rattle.simd_json_ondemand.specs.Stopped.{told};
 ghost use Rattle.simd_json_parts.specs.Followed.{IsPlain};
 ghost use Rattle.simd_json_parts.specs.Pointed.{unescaped};
 
-mod token;
-
+use crate::key::is_written;
 use crate::object::Object;
 use crate::unexpected::{Expected, Unexpected};
 use crate::value::Value;
 use crate::walk::{Stop, found, told};
 use simd_json_parts::pointer::{Pointer, is_plain, is_well_formed, next_token, read_index};
-use token::is_written;
 
 impl<'d> Value<'d> {
     ghost use Rattle.std.specs.Prelude.{◌≡◌, IfErr, List, Some, ℕ};
@@ -173,7 +171,7 @@ impl<'d> Value<'d> {
         ensures { (key : List ℕ) → unescaped token.now ≡ Some key
             → result ≡ is_key key (option_and_then as_str (doc self.entry)) }
     {
-        is_written(self.bytes(), token)
+        is_written::<true>(self.bytes(), token)
     }
 }
 

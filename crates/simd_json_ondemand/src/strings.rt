@@ -1,5 +1,6 @@
 //! Strings: borrowed from the input where they have no escape, else decoded into a buffer.
 ghost use Rattle.std.specs.Prelude.{◌≡◌, ◌≤◌, ◌<◌, ◌+◌, length, drop, OnOk, IfErr};
+ghost use Rattle.std.specs.Vec.{vec_capacity};
 ghost use Rattle.std.specs.List.{prefix_len};
 ghost use Rattle.simd_json_check.specs.Capacities.{IsOutOfMemory};
 ghost use Rattle.simd_json_parts.specs.Bytes.{byte_at, quote};
@@ -13,8 +14,12 @@ use simd_json_scalars::stringparse::parse_str;
 use std::alloc::Allocator;
 
 impl<'d> Value<'d> {
-    ghost use Rattle.std.specs.Prelude.{◌≡◌, ◌⊎◌, Some, None, MatchOption, IfOk, IfErr, option_map};
-    ghost use Rattle.simd_json_ondemand.specs.Docs.{as_standing, HasEscape};
+    ghost use Rattle.std.specs.Prelude.{◌≡◌, ◌<◌, ◌⊎◌, Some, None, MatchOption, IfOk, IfErr};
+    ghost use Rattle.std.specs.Prelude.{option_map};
+    ghost use Rattle.std.specs.Vec.{vec_capacity};
+    ghost use Rattle.simd_json_ondemand.specs.Docs.{HasEscape, as_standing, index_of, string_len};
+    ghost use Rattle.simd_json_ondemand.specs.Docs.{text};
+    ghost use Rattle.simd_json_parts.specs.Bytes.{byte_at, quote};
     ghost use Rattle.simd_json_parts.specs.Accessors as accessors;
 
     /// Returns the string, if it has no escape, else `None`. [`decode`](Value::decode) returns any
@@ -28,6 +33,16 @@ impl<'d> Value<'d> {
         if self.first() != b'"' {
             return None;
         }
+        self.plain()
+    }
+
+    // The string that opens here, if it has no escape.
+    #[inline(always)]
+    fn plain(self) -> Option<&'d str>
+        requires { byte_at (text self.document) (index_of self) ≡ quote }
+        ensures { MatchOption result (HasEscape self.entry)
+            (λ s. as_standing accessors.str self.entry ≡ Some s.now) }
+    {
         let bytes = self.bytes();
         let end = plain_end(bytes, 1);
         if bytes[end] != b'"' {
@@ -39,7 +54,8 @@ impl<'d> Value<'d> {
     /// Returns the string, or `None`. One that has an escape is decoded into the buffer, whose
     /// contents are overwritten; another is borrowed from the input.
     ///
-    /// Returns `OutOfMemory` if the buffer cannot grow.
+    /// Returns `OutOfMemory` if a string with an escape has more bytes, as it is written and with
+    /// its quotes, than the buffer's capacity, and the buffer cannot grow.
     ///
     /// ```
     /// use simd_json_ondemand::{Index, Result};
@@ -59,12 +75,13 @@ impl<'d> Value<'d> {
         'd: 's,
         ensures string { IfOk result (λ string.
             option_map (λ s. s.now) string ≡ as_standing accessors.str self.entry) }
-        ensures fault { IfErr result IsOutOfMemory }
+        ensures fault { IfErr result (λ e. IsOutOfMemory e × HasEscape self.entry
+            × (vec_capacity buffer.old < string_len self.entry)) }
     {
         if self.first() != b'"' {
             return Ok(None);
         }
-        if let Some(string) = self.as_str() {
+        if let Some(string) = self.plain() {
             return Ok(Some(string));
         }
         let bytes = self.bytes();
@@ -107,7 +124,8 @@ pub(crate) fn closing(bytes: &[u8]) -> usize
 // Makes the buffer hold these bytes alone.
 fn copy<A: Allocator>(bytes: &[u8], buffer: &mut Vec<u8, A>) -> Result<()>
     ensures copied { OnOk result (buffer.new.items ≡ bytes.now) }
-    ensures fault { IfErr result IsOutOfMemory }
+    ensures fault { IfErr result (λ e. IsOutOfMemory e
+        × (vec_capacity buffer.old < length bytes.now)) }
 {
     buffer.clear();
     buffer.extend_from_slice(bytes)?;

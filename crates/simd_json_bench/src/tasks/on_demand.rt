@@ -49,6 +49,8 @@ fn read<'d>(index: &'d mut Index, text: &'d [u8], checks: bool) -> Result<Docume
     }
 }
 
+// Each task is a function of its own, as it is where a user calls it: together they leave one
+// another no registers.
 fn answer(alloc: Global, root: Value<'_>, task: u32, buffer: &mut Vec<u8>) -> Option<u64> {
     match task {
         0 => partial(root, buffer),
@@ -74,6 +76,7 @@ fn statuses(root: Value<'_>) -> Option<Array<'_>> {
     root.get("statuses")?.as_array()
 }
 
+#[inline(never)]
 fn partial(root: Value<'_>, buffer: &mut Vec<u8>) -> Option<u64> {
     let mut sum = 0u64;
     let mut statuses = statuses(root)?;
@@ -112,6 +115,7 @@ fn tweet(tweet: &mut Object<'_>, buffer: &mut Vec<u8>) -> Option<u64> {
     )
 }
 
+#[inline(never)]
 fn found(root: Value<'_>, buffer: &mut Vec<u8>) -> Option<u64> {
     let mut statuses = statuses(root)?;
     for _ in 0..usize::MAX {
@@ -124,6 +128,7 @@ fn found(root: Value<'_>, buffer: &mut Vec<u8>) -> Option<u64> {
     None
 }
 
+#[inline(never)]
 fn top(root: Value<'_>, buffer: &mut Vec<u8>) -> Option<u64> {
     let mut most = 0u64;
     let mut top = None;
@@ -152,6 +157,7 @@ fn top(root: Value<'_>, buffer: &mut Vec<u8>) -> Option<u64> {
     )
 }
 
+#[inline(never)]
 fn users(alloc: Global, root: Value<'_>) -> Option<u64> {
     let mut ids = Vec::new(alloc);
     let mut statuses = statuses(root)?;
@@ -173,6 +179,7 @@ fn users(alloc: Global, root: Value<'_>) -> Option<u64> {
     Some(distinct(&mut ids))
 }
 
+#[inline(never)]
 fn catalogue(root: Value<'_>) -> Option<u64> {
     let mut sum = 0u64;
     let mut performances = root.get("performances")?.as_array()?;
@@ -211,6 +218,7 @@ fn rings(root: Value<'_>) -> Option<Array<'_>> {
     feature.get("geometry")?.get("coordinates")?.as_array()
 }
 
+#[inline(never)]
 fn coordinates<const FLOATS: bool>(root: Value<'_>) -> Option<u64> {
     let mut sum = 0u64;
     let mut rings = rings(root)?;

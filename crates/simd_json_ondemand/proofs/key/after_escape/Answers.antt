@@ -1,13 +1,27 @@
-use Rattle.std.proofs.Common.{◌≡◌, sym, ◌∙◌, ap, ◌++◌, length, take}
+use Rattle.std.proofs.Common.{◌≡◌, sym, ◌∙◌, ap, ℕ, List, [], ◌++◌, length, take, not, nat_eq, Option, Some, None, option_map}
 use Rattle.std.proofs.lemmas.Str.{length-encode}
 use Rattle.std.specs.Prelude.{encode_utf8}
 use lib.Seq.{take-append_seam}
-use Rattle.simd_json_parts.proofs.Lists.Prefixes.{stripped}
+use Rattle.simd_json_ondemand.specs.Wanted.{key_of}
 use Rattle.simd_json_ondemand.proofs.key.after_escape.Goals as goal
 
+abbrev piece-of : Option (List ℕ × ℕ) → List ℕ
+piece-of None = []
+piece-of (Some p) = p.0
+
+pub returns-in_err-rest : goal.returns-in_err-rest
+returns-in_err-rest g c =
+    let put = c.codepoint_to_utf8-len in
+    let character = c.in_ok-character.character in
+    let utf8 : take put.result put.new.bytes ≡ encode_utf8 character =
+    ap (λ n. take n put.new.bytes) (put.ensures.len ∙ sym (length-encode character))
+    ∙ ap (take (length (encode_utf8 character))) put.ensures.written ∙ take-append_seam (encode_utf8 character) _ in
+    rw c.from_residual-in_err-rest.ensures
+    (λ p k e is. c.in_err-rest.ensures k
+    (is ∙ ap (λ us. Some (us ++ k)) (ap piece-of (sym e ∙ c.in_ok-character.ensures.value) ∙ sym utf8)))
+
 pub returns : goal.returns
-returns c =
-    let e = c.in_ok-rest.ensures.cases in
+returns g c =
     let put = c.codepoint_to_utf8-len in
     let character = c.in_ok-character.character in
     let utf8 : take put.result put.new.bytes ≡ encode_utf8 character =
@@ -15,6 +29,5 @@ returns c =
     ∙ ap (take (length (encode_utf8 character))) put.ensures.written ∙ take-append_seam (encode_utf8 character) _ in (
       _,
       c.in_ok-character.ensures.value,
-      stripped c.args.key.now _ c.in_ok-rest.rest.now e.0 e.1
-          ∙ ap (λ us. us ++ c.in_ok-rest.rest.now) utf8,
+      c.in_ok-rest.ensures ∙ ap (λ us. option_map (λ k. us ++ k) (key_of (not (nat_eq g.row.TOKEN 0)) c.in_ok-rest.rest.now)) utf8,
     )

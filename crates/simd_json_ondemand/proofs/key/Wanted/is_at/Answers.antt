@@ -1,4 +1,4 @@
-use Rattle.std.proofs.Common.{◌∙◌, arith}
+use Rattle.std.proofs.Common.{refl, ◌∙◌, arith}
 use Rattle.std.proofs.lemmas.Bool.{lt-ltb, ne_eqb}
 use Rattle.simd_json_ondemand.proofs.Keys.{not-key, the-key}
 use Rattle.simd_json_ondemand.proofs.key.Wanted.is_at.Goals.{then-bytes-same-eq92, else-bytes-same-eq92}
@@ -8,7 +8,7 @@ use Rattle.simd_json_ondemand.proofs.key.Wanted.is_at.Goals as goal
 
 pub returns-then-same-self : goal.returns-then-same-self
 returns-then-same-self c = elim c.if-bytes-same-eq92.branch [
-  | then-bytes-same-eq92 w ↦ w.result-is ∙ w.is_written-then-bytes-same-eq92.ensures
+  | then-bytes-same-eq92 w ↦ w.result-is ∙ w.is_written-then-bytes-same-eq92.ensures c.args.self.key.now refl
   | else-bytes-same-eq92 w ↦
       w.result-is ∙ ne_eqb _ 92 w.if-bytes-same-eq92.false
       ∙ not-key c.args.bytes.now c.args.self.key.now c.args.self.first c.args.self.is_plain c.args.self.made
