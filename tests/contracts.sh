@@ -30,7 +30,7 @@ simd_json_serde Mismatch::path        words for people, tested (simd_json_serde_
 simd_json_serde Mismatch::name        as above
 END
 
-# A contract stands between a function's signature and its body. `rt fmt` puts each clause and, after clauses, the body's bracket at
+# Clauses are between a function's signature and its body. `rt fmt` puts each clause and, after clauses, the body's bracket at
 # the beginning of a line, and without clauses the bracket at the signature's end.
 cat > "$room/functions" << 'END'
 # type_of TEXT: the type or the trait of the first line of an item, without parameters.
