@@ -93,6 +93,7 @@ test: has-rt
 	sh tests/statuses.sh
 	sh tests/places.sh
 	sh tests/counts.sh
+	sh tests/contracts.sh
 	sh tests/commands.sh
 
 # Every must-fail edit, and edits.txt, which says what was tried. With CRATES=".." those of these crates alone, while one writes.
