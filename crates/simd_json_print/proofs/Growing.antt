@@ -16,6 +16,7 @@ pub record IsAppended {E A : Type 0} (r : Result Unit E) (name capacity : ℕ) (
   pub kept : IsPrefix old new.list.now.items
   pub all : OnOk r (new.list.now.items ≡ old ++ bytes)
   pub lacking : OnErr r (capacity < length old + length bytes)
+  pub begun : OnErr r ((count : ℕ) × (new.list.now.items ≡ old ++ take count bytes))
   pub grown : capacity ≤ vec_capacity new.list.now
 
 pub is-appended : {E A : Type 0} (r : Result Unit E) (name capacity : ℕ) (old : List ℕ) (new : Growing A) (bytes : List ℕ)
@@ -29,6 +30,7 @@ is-appended (Ok u) name capacity old new bytes ends =
       kept = ap (take (length old)) is ∙ take-append_seam old bytes;
       all = is;
       lacking = tt;
+      begun = tt;
       grown = omega (arith, same, new.grown);
     }
 is-appended (Err e) name capacity old new bytes ends =
@@ -40,5 +42,6 @@ is-appended (Err e) name capacity old new bytes ends =
       kept = ap (take (length old)) is ∙ take-append_seam old part;
       all = tt;
       lacking = omega (arith, same, new.full cc, ap length is, length-append old part, length-take ends.0.0 bytes, ends.0.1);
+      begun = (ends.0.0, is);
       grown = omega (arith, same, new.grown);
     }

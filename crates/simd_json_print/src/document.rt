@@ -49,7 +49,7 @@ pub fn put_pretty<T: Target, const SIZE: usize>(out: &mut Text<'_, T, SIZE>, nod
 /// Appends the compact text of the document that the nodes list.
 ///
 /// Returns an error if an allocation fails, so only where `out` lacks the capacity. `out` then has
-/// its old contents, and a part of the text may follow.
+/// its old contents, and after them a prefix of the text.
 pub fn append_compact<A: Allocator>(
     out: &mut Vec<u8, A>,
     nodes: &[Node<'_>],
@@ -58,6 +58,8 @@ pub fn append_compact<A: Allocator>(
         → OnOk result (out.new.items ≡ out.old.items ++ compact d) }
     ensures lacking { (d : Document) → map item_of nodes.now ≡ listing d
         → OnErr result (vec_capacity out.old < length out.old.items + length (compact d)) }
+    ensures begun { (d : Document) → map item_of nodes.now ≡ listing d → OnErr result
+        ((count : ℕ) × (out.new.items ≡ out.old.items ++ take count (compact d))) }
     ensures kept { IsPrefix out.old.items out.new.items }
     ensures capacity { vec_capacity out.old ≤ vec_capacity out.new }
 {
@@ -67,7 +69,7 @@ pub fn append_compact<A: Allocator>(
 /// Appends the pretty text of the document that the nodes list.
 ///
 /// Returns an error if an allocation fails, so only where `out` lacks the capacity. `out` then has
-/// its old contents, and a part of the text may follow.
+/// its old contents, and after them a prefix of the text.
 pub fn append_pretty<A: Allocator>(
     out: &mut Vec<u8, A>,
     nodes: &[Node<'_>],
@@ -76,6 +78,8 @@ pub fn append_pretty<A: Allocator>(
         → OnOk result (out.new.items ≡ out.old.items ++ pretty d) }
     ensures lacking { (d : Document) → map item_of nodes.now ≡ listing d
         → OnErr result (vec_capacity out.old < length out.old.items + length (pretty d)) }
+    ensures begun { (d : Document) → map item_of nodes.now ≡ listing d → OnErr result
+        ((count : ℕ) × (out.new.items ≡ out.old.items ++ take count (pretty d))) }
     ensures kept { IsPrefix out.old.items out.new.items }
     ensures capacity { vec_capacity out.old ≤ vec_capacity out.new }
 {
@@ -91,6 +95,8 @@ fn append<A: Allocator, const PRETTY: bool>(
         → OnOk result (out.new.items ≡ out.old.items ++ text PRETTY d 0) }
     ensures lacking { (d : Document) → map item_of nodes.now ≡ listing d
         → OnErr result (vec_capacity out.old < length out.old.items + length (text PRETTY d 0)) }
+    ensures begun { (d : Document) → map item_of nodes.now ≡ listing d → OnErr result
+        ((count : ℕ) × (out.new.items ≡ out.old.items ++ take count (text PRETTY d 0))) }
     ensures kept { IsPrefix out.old.items out.new.items }
     ensures capacity { vec_capacity out.old ≤ vec_capacity out.new }
 {
@@ -152,7 +158,7 @@ pub fn write_pretty<W: Write>(writer: &mut W, nodes: &[Node<'_>]) -> io::Result<
 /// backslashes and bytes below 0x20 escaped.
 ///
 /// Returns an error if an allocation fails, so only where `out` lacks the capacity. `out` then has
-/// its old contents, and a part of the string may follow.
+/// its old contents, and after them a prefix of the string's text.
 pub fn append_quoted<A: Allocator>(
     out: &mut Vec<u8, A>,
     string: &str,
@@ -160,6 +166,8 @@ pub fn append_quoted<A: Allocator>(
     ensures appended { OnOk result (out.new.items ≡ out.old.items ++ quoted string.now) }
     ensures lacking { OnErr result
         (vec_capacity out.old < length out.old.items + length (quoted string.now)) }
+    ensures begun { OnErr result
+        ((count : ℕ) × (out.new.items ≡ out.old.items ++ take count (quoted string.now))) }
     ensures kept { IsPrefix out.old.items out.new.items }
     ensures capacity { vec_capacity out.old ≤ vec_capacity out.new }
 {

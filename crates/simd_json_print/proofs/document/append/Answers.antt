@@ -14,6 +14,7 @@ returns-in-Ok g c =
               (put.ensures.given d is) in
           search rules;
       lacking = λ d is. search rules;
+      begun = λ d is. search rules;
       kept = search rules;
       capacity = search rules;
     }
@@ -26,6 +27,10 @@ returns-in-Err g c =
     record {
       appended = λ d is. search rules;
       lacking = λ d is.
+          let all = is-appended put.result _ _ old put.new.target (text (not (nat_eq g.row.PRETTY 0)) d 0)
+              (put.ensures.given d is) in
+          search rules;
+      begun = λ d is.
           let all = is-appended put.result _ _ old put.new.target (text (not (nat_eq g.row.PRETTY 0)) d 0)
               (put.ensures.given d is) in
           search rules;
