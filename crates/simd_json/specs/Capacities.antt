@@ -3,11 +3,11 @@ use Rattle.std.specs.Prelude.{◌≡◌, ◌≤◌, ℕ, List, length, min, max,
 use Rattle.simd_json_check.specs.Capacities as lists
 use Rattle.simd_json_parts.specs.InputFaults.{input_fault}
 use Rattle.simd_json_parts.specs.Positions.{positions}
-use Rattle.simd_json_stages.specs.EscapeBlocks.{backslash_blocks}
+use Rattle.simd_json_stages.specs.EscapeBlocks.{backslash_blocks, blocks_in}
 
 -- what is listed, with its capacity; the depth limit; and for how many open containers there is capacity
 pub record Capacities : Type 0 where
-  pub index : lists.Capacities
+  pub index : lists.IndexCapacities
   pub limit : ℕ
   pub stack_capacity : ℕ
 
@@ -18,7 +18,7 @@ capacity r =
 
 -- no list is shorter
 abbrev pub KeepsCapacities : Capacities → Capacities → Type 0
-KeepsCapacities old new = lists.KeepsCapacities old.index new.index × (old.stack_capacity ≤ new.stack_capacity)
+KeepsCapacities old new = lists.IsNoShorter old.index new.index × (old.stack_capacity ≤ new.stack_capacity)
 
 -- the same is listed, within the same limit
 abbrev pub ListsSame : Capacities → Capacities → Type 0
@@ -31,6 +31,14 @@ pub record HoldsScan (b : List ℕ) (r : Capacities) : Type 0 where
   pub escapes : r.index.escapes ≡ backslash_blocks b
   pub whole : input_fault b ≡ None
   pub stack : min (length (positions b)) r.limit ≤ max r.stack_capacity 64
+
+-- the same with capacity for so many bytes
+abbrev pub with_room : ℕ → Capacities → Capacities
+with_room len r =
+    record r {
+      index = record r.index { indexes = max r.index.indexes len; blocks = max r.index.blocks (blocks_in len) };
+      stack_capacity = max r.stack_capacity (min len r.limit);
+    }
 
 -- nothing is listed, and there is capacity for the positions and blocks of so many bytes, but none for open containers
 abbrev pub new_buffers : ℕ → ℕ → Capacities

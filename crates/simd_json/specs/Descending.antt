@@ -5,7 +5,7 @@ use Rattle.simd_json_parts.specs.Document.{element, elements, Members, no_member
 use Rattle.simd_json_parts.specs.Nodes.{item_of}
 use Rattle.simd_json_parts.specs.Views.{values}
 use Rattle.simd_json.specs.Beneath.{beneath}
-use Rattle.simd_json.specs.Documents.{elements_of, front, others, front_pairs, other_pairs}
+use Rattle.simd_json.specs.Documents.{elements_of, front, other_elements, front_pairs, other_pairs}
 use Rattle.simd_json.specs.declared.value.tape.descendants.Descendants.{Descendants}
 use Rattle.simd_json.specs.declared.value.tape.descendants.Level.{Level}
 use Rattle.simd_json.specs.declared.value.tape.descendants.Levels.{Levels}
@@ -39,7 +39,7 @@ inside false n ds = elements (front n ds)
 
 abbrev pub outside : Bool → ℕ → Elements → Elements
 outside true n ds = other_pairs n ds
-outside false n ds = others n ds
+outside false n ds = other_elements n ds
 
 -- ---- what is left
 

@@ -23,9 +23,9 @@ static_document (fixed.U128 n) = integer false n
 
 -- ---- documents in a row
 
-abbrev pub first : Elements → Document
-first no_elements = null
-first (element d ds) = d
+abbrev pub first_in_row : Elements → Document
+first_in_row no_elements = null
+first_in_row (element d ds) = d
 
 -- at most so many
 abbrev pub front : ℕ → Elements → Elements
@@ -34,10 +34,10 @@ front (suc n) no_elements = no_elements
 front (suc n) (element d ds) = element d (front n ds)
 
 -- all but so many
-abbrev pub others : ℕ → Elements → Elements
-others zero ds = ds
-others (suc n) no_elements = no_elements
-others (suc n) (element d ds) = others n ds
+abbrev pub other_elements : ℕ → Elements → Elements
+other_elements zero ds = ds
+other_elements (suc n) no_elements = no_elements
+other_elements (suc n) (element d ds) = other_elements n ds
 
 abbrev pub name_of : Document → List ℕ
 name_of (string t) = t
@@ -69,11 +69,11 @@ elements_of [] = no_elements
 elements_of (static_item s ∷ ns) = element (static_document s) (elements_of ns)
 elements_of (decimal_item literal ∷ ns) = element (decimal literal) (elements_of ns)
 elements_of (string_item t ∷ ns) = element (string t) (elements_of ns)
-elements_of (array_item len count ∷ ns) = element (array (front len (elements_of ns))) (others len (elements_of ns))
+elements_of (array_item len count ∷ ns) = element (array (front len (elements_of ns))) (other_elements len (elements_of ns))
 elements_of (object_item len count ∷ ns) = element (object (front_pairs len (elements_of ns))) (other_pairs len (elements_of ns))
 
 abbrev pub document_of : List Item → Document
-document_of ns = first (elements_of ns)
+document_of ns = first_in_row (elements_of ns)
 
 abbrev pub members_of : List Item → Members
 members_of ns = in_pairs (elements_of ns)

@@ -1,6 +1,6 @@
 -- What a parse returns, and what it leaves.
 use Rattle.std.specs.Prelude.{◌≡◌, ◌≢◌, ◌≤◌, ◌<◌, ◌⊎◌, ℕ, suc, List, [], length, take, Option, Some}
-use Rattle.std.specs.Prelude.{None, is_some, IsSome, IsTrue, IfNone, IfSome, OnSome, MatchOption, Result, Ok, Err, if◌then◌else◌}
+use Rattle.std.specs.Prelude.{None, IsSome, IsTrue, IfNone, IfSome, OnSome, MatchOption, Result, Ok, Err}
 use Rattle.simd_json_parts.specs.Answer.{answer}
 use Rattle.simd_json_parts.specs.Document.{Document}
 use Rattle.simd_json_parts.specs.ErrorKinds.{is_unexpected_token}
@@ -14,7 +14,7 @@ use Rattle.simd_json_parts.specs.Nodes.{Item}
 use Rattle.simd_json_parts.specs.Positions.{positions}
 use Rattle.simd_json_parts.specs.declared.error.Error.{Error}
 use Rattle.simd_json_parts.specs.declared.error.ErrorType.TheVariants.{OutOfMemory}
-use Rattle.simd_json_check.specs.Capacities.{LacksMemory}
+use Rattle.simd_json_check.specs.Capacities.{LacksMemory, positions_after}
 use Rattle.simd_json.specs.Tapes.{Listed}
 
 -- no allocation failed
@@ -40,11 +40,6 @@ pub record IsRejected (b : List ℕ) (limit : ℕ) (e : Error) : Type 0 where
   pub kinds : ((input_fault b ≡ Some e) × IsOfInput e) ⊎ ((input_fault b ≡ None) × IsOfToken e)
   pub not_late : IsSome e.character → IsBeginning (take e.index b)
   pub not_early : IsTrue (is_unexpected_token e.error) → IsBeginning (take (suc e.index) b) → ⊥
-
--- the positions that are listed afterwards: none after a fault without a character
-abbrev pub positions_after : List ℕ → Option Error → List ℕ
-positions_after b None = positions b
-positions_after b (Some e) = if is_some e.character then positions b else []
 
 -- A parse of b with so many containers open at most, where there was capacity for `capacity` bytes: the fault if
 -- there is one, and the nodes and the positions that are listed afterwards. Nothing else that buffers and tape held
@@ -78,6 +73,6 @@ nodes_of (Ok tape) = tape.nodes
 nodes_of (Err e) = []
 
 -- the nodes that are written to a sink, or none after a fault
-abbrev pub written : Result (Unit {0}) Error → List Item → List Item
-written (Ok done) nodes = nodes
-written (Err e) nodes = []
+abbrev pub nodes_written : Result (Unit {0}) Error → List Item → List Item
+nodes_written (Ok done) nodes = nodes
+nodes_written (Err e) nodes = []

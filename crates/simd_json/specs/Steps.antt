@@ -3,10 +3,10 @@ use Rattle.std.specs.Prelude.{ℕ}
 use Rattle.simd_json.specs.Tapes.{Listed}
 
 -- the tape, and the index of the node that comes next: past the last one, none is left
-pub record Steps : Type 0 where
+pub record Stepped : Type 0 where
   pub tape : Listed
   pub position : ℕ
 
 -- at the first node
-abbrev pub steps_from : Listed → Steps
+abbrev pub steps_from : Listed → Stepped
 steps_from tape = record { tape = tape; position = 0 }

@@ -21,5 +21,5 @@ abbrev pub StandsFor : List Node → Document → Type 0
 StandsFor ns d = (rest : List Item) × (map item_of ns ≡ listing d ++ rest)
 
 -- what a tape holds: nothing, or one document that can be spelled and whose integers fit
-abbrev pub IsTape : List Item → Type 0
-IsTape ns = (ns ≡ []) ⊎ ((d : Document) × IsSpellable d × IntegersFit d × (ns ≡ listing d))
+abbrev pub IsTapeContent : List Item → Type 0
+IsTapeContent ns = (ns ≡ []) ⊎ ((d : Document) × IsSpellable d × IntegersFit d × (ns ≡ listing d))

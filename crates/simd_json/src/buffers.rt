@@ -3,7 +3,7 @@
 ghost use Rattle.std.specs.Prelude.{◌≡◌, ◌≤◌, ◌<◌, ◌⊎◌, [], length};
 ghost use Rattle.std.specs.Prelude.{OnOk, OnErr, IfOk, IfErr, Some, Err};
 ghost use Rattle.simd_json.specs.Capacities.{HoldsScan, KeepsCapacities, ListsSame, capacity};
-ghost use Rattle.simd_json.specs.Capacities.{new_buffers};
+ghost use Rattle.simd_json.specs.Capacities.{new_buffers, with_room};
 ghost use Rattle.simd_json_check.specs.Capacities.{IsOutOfMemory, LacksMemory, capped};
 ghost use Rattle.simd_json_check.specs.Capacities.{default_max_depth};
 ghost use Rattle.simd_json_parts.specs.Descent.{descent};
@@ -14,16 +14,12 @@ ghost use Rattle.simd_json_stages.specs.NodesEnough.{nodes_enough};
 ghost use Rattle.simd_json_stages.specs.Rejections.{IsTokenFault};
 
 use crate::DEFAULT_MAX_DEPTH;
-use simd_json_check::Index;
 use simd_json_check::lists::lengthen;
+use simd_json_check::{FEW_OPEN, Index};
 use simd_json_parts::error::Result;
 use simd_json_stages::stage2::{NodeSink, Original, StackState, build_tape};
 use std::alloc::{Allocator, Global};
 use std::marker::Model;
-
-// For how many open containers buffers hold a stack that is not allocated, so that a parse of a
-// short input allocates none.
-const FEW_OPEN: usize = 64;
 
 /// The memory that parses use one after another, and their depth limit: the lists of the structural
 /// indexes and of the blocks that hold a backslash, and the stack of the open containers.
@@ -36,7 +32,8 @@ pub struct Buffers<A: Allocator = Global> {
     pub(crate) index: Index<A>,
     // the stack of the second stage, in use only during a parse
     pub(crate) stack: Vec<StackState, A>,
-    // a stack for a few containers, in place of one that is too short
+    // a stack for a few containers, in place of one that is too short, so that a parse of a short
+    // input allocates none
     few: [StackState; FEW_OPEN],
     // how many containers may be open at a time
     pub(crate) max_depth: usize,
@@ -139,6 +136,7 @@ impl<A: Allocator> Buffers<A> {
     /// Returns `OutOfMemory` if an allocation fails; what capacity has been reserved by then stays.
     pub fn reserve(&mut self, input_len: usize) -> Result<()>
         ensures capacity { OnOk result (capped input_len ≤ capacity self.new) }
+        ensures exact { OnOk result (self.new ≡ with_room (capped input_len) self.old) }
         ensures kept { KeepsCapacities self.old self.new }
         ensures same { ListsSame self.old self.new }
         ensures fault { IfErr result

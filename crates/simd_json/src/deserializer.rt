@@ -1,4 +1,4 @@
-//! Steps through the nodes of a tape, one after another.
+//! Stepped through the nodes of a tape, one after another.
 ghost use Rattle.std.specs.Prelude.{◌≡◌, ◌≢◌, ◌<◌, ◌↔◌, ◌+◌, [], ℕ};
 ghost use Rattle.std.specs.Prelude.{List, length, slice_get};
 ghost use Rattle.std.specs.Prelude.{IsFalse, IfOk, Some};
@@ -7,7 +7,7 @@ ghost use Rattle.simd_json.specs.Answered.{ok_map};
 ghost use Rattle.simd_json.specs.Capacities.{KeepsCapacities};
 ghost use Rattle.simd_json_check.specs.Capacities.{default_max_depth};
 ghost use Rattle.simd_json.specs.Parsed.{IsParse, nodes_of};
-ghost use Rattle.simd_json.specs.Steps.{Steps, steps_from};
+ghost use Rattle.simd_json.specs.Steps.{Stepped, steps_from};
 ghost use Rattle.simd_json.specs.Viewed.{doc};
 ghost use Rattle.simd_json_parts.specs.Listing.{listing};
 ghost use Rattle.simd_json_parts.specs.Nodes.{item_of};
@@ -32,9 +32,9 @@ pub struct Deserializer<'de, A: Allocator = Global> {
 }
 
 impl<'de, A: Allocator> Model for Deserializer<'de, A> {
-    ghost use Rattle.simd_json.specs.Steps.{Steps};
+    ghost use Rattle.simd_json.specs.Steps.{Stepped};
 
-    ghost Value = { Steps };
+    ghost Value = { Stepped };
 
     ghost view = { λ d. record { tape = d.tape; position = d.position } };
 }

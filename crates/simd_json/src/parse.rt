@@ -7,8 +7,9 @@ ghost use Rattle.std.specs.Result.{result_err};
 ghost use Rattle.simd_json.specs.Parsed.{IsPaddedParse, IsParse, IsParseResult};
 ghost use Rattle.simd_json.specs.Parsed.{IsParsed, IsRejected, nodes_of};
 ghost use Rattle.simd_json.specs.Capacities.{HoldsScan, KeepsCapacities, ListsSame, capacity};
+ghost use Rattle.simd_json.specs.Capacities.{with_room};
 ghost use Rattle.simd_json_check.specs.Capacities.{IsOutOfMemory, IsUnchecked, LacksMemory};
-ghost use Rattle.simd_json_check.specs.Capacities.{capped, default_max_depth};
+ghost use Rattle.simd_json_check.specs.Capacities.{capped, default_max_depth, positions_after};
 ghost use Rattle.simd_json.specs.Parsed.{HasMemory};
 ghost use Rattle.simd_json.specs.Reserved.{IsReserved, parse_capacity};
 ghost use Rattle.simd_json_parts.specs.Descent.{descent};
@@ -274,7 +275,7 @@ impl<A: Allocator> Buffers<A> {
             ((nodes : List Item) × IsParsed input.now self.old.limit nodes) }
         ensures rejected { IfErr result (λ e. IsRejected input.now self.old.limit e
             ⊎ IsUnchecked input.now self.old.limit self.old.index e) }
-        ensures positions { OnOk result (self.new.index.listed ≡ positions input.now) }
+        ensures found { self.new.index.listed ≡ positions_after input.now (result_err result) }
         ensures limit { self.new.limit ≡ self.old.limit }
         ensures capacities { KeepsCapacities self.old self.new }
     {
@@ -288,7 +289,8 @@ impl<A: Allocator> Buffers<A> {
 /// What is listed stays, and so does capacity.
 ///
 /// It takes about 28 bytes for each byte of `input_len`, and 48 for each container that may be
-/// open. Returns `OutOfMemory` if an allocation fails; what has been reserved by then stays.
+/// open, and nothing where there is as much capacity. Returns `OutOfMemory` if an allocation fails;
+/// what has been reserved by then stays, and the tape is as it was.
 ///
 /// ```
 /// use simd_json::{Buffers, Tape, fill_tape, reserve};
@@ -310,9 +312,13 @@ pub fn reserve<A: Allocator, B: Allocator>(
 ) -> Result<()>
     ensures reserved { OnOk result (IsReserved input_len buffers.new tape.new) }
     ensures capacity { OnOk result (capped input_len ≤ parse_capacity buffers.new tape.new) }
+    ensures exact { OnOk result (buffers.new ≡ with_room (capped input_len) buffers.old) }
     ensures same { ListsSame buffers.old buffers.new × (tape.new.nodes ≡ tape.old.nodes) }
     ensures kept { KeepsCapacities buffers.old buffers.new
         × (tape.old.capacity ≤ tape.new.capacity) }
+    ensures enough { capped input_len ≤ parse_capacity buffers.old tape.old
+        → (buffers.new ≡ buffers.old) × (tape.new ≡ tape.old) }
+    ensures failed { OnErr result (tape.new ≡ tape.old) }
     ensures fault { IfErr result (λ e. IsOutOfMemory e
         × (parse_capacity buffers.old tape.old < capped input_len)) }
 {

@@ -1,7 +1,7 @@
 //! The entry point that writes nodes to a sink of the caller's, and makes no tape.
 ghost use Rattle.std.specs.Prelude.{◌≡◌, ◌≤◌, [], IfErr, None};
 ghost use Rattle.std.specs.Result.{result_err};
-ghost use Rattle.simd_json.specs.Parsed.{IsParse, written};
+ghost use Rattle.simd_json.specs.Parsed.{IsParse, nodes_written};
 ghost use Rattle.simd_json.specs.Capacities.{KeepsCapacities, capacity};
 ghost use Rattle.simd_json_parts.specs.Limits.{max_length};
 
@@ -31,7 +31,8 @@ pub fn fill_sink<'de, K: Original, S: NodeSink<'de>, A: Allocator>(
     requires room { max_length ≤ S.node_room sink.old }
     requires empty { S.held_nodes sink.old ≡ [] }
     ensures parse { IsParse K.bytes buffers.old.limit (capacity buffers.old)
-        (result_err result) (written result (S.held_nodes sink.new)) buffers.new.index.listed }
+        (result_err result) (nodes_written result (S.held_nodes sink.new))
+        buffers.new.index.listed }
     ensures unread { IfErr result (λ e. e.character ≡ None → sink.new ≡ sink.old) }
     ensures lender { S.lender sink.new ≡ S.lender sink.old }
     ensures room { S.node_room sink.new ≡ S.node_room sink.old }

@@ -10,9 +10,9 @@ use Rattle.simd_json_parts.specs.declared.error.ErrorType.TheVariants.{InvalidUt
 use Rattle.simd_json_parts.specs.declared.error.Error.{Error}
 use Rattle.simd_json_parts.specs.Positions.{positions}
 use Rattle.simd_json_stages.proofs.Tokens.Places.{position-inside}
-use Rattle.simd_json_check.specs.Scanned.{IsScanned}
+use Rattle.simd_json_check.specs.Scanned.{IsWholeScan}
 
-pub within : (b is : List ℕ) → IsScanned b is → (k : ℕ) → k < length is → slice_index is k < length b
+pub within : (b is : List ℕ) → IsWholeScan b is → (k : ℕ) → k < length is → slice_index is k < length b
 within b is s k l = subst (λ ks. slice_index ks k < length b) (sym s.listed) (position-inside b k (subst (λ ks. k < length ks) s.listed l))
 
 -- Where no fault is reported, a cause does not apply, and the next is asked.
@@ -24,7 +24,7 @@ positive : (n : ℕ) → (n == 0) ≡ false → 0 < n
 positive zero h = cc
 positive (suc n) h = omega arith
 
-pub some_position : (b is : List ℕ) → IsScanned b is → 0 < length is
+pub some_position : (b is : List ℕ) → IsWholeScan b is → 0 < length is
 unfolding input_fault
 some_position b is s =
     let size : (nat_lt max_length (length b) ≡ false)

@@ -19,8 +19,8 @@ abbrev pub begins_character : ℕ → Bool
 begins_character c = nat_lt c 0x80 || nat_le 0xc0 c
 
 -- the line of byte i: from 1, by line feeds
-abbrev pub line_of : List ℕ → ℕ → ℕ
-line_of b i = count_by is_line_feed (take i b) + 1
+abbrev pub line_at : List ℕ → ℕ → ℕ
+line_at b i = count_by is_line_feed (take i b) + 1
 
 -- what stands before byte i in its line
 abbrev pub line_before : List ℕ → ℕ → List ℕ

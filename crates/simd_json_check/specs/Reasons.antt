@@ -5,7 +5,7 @@ use Rattle.std.specs.Char.{is_ascii_digit, is_digit}
 use Rattle.std.specs.Option.{option_map}
 use Rattle.std.specs.Result.{result_err}
 use Rattle.std.specs.Str.Lossy.{utf8_valid_len}
-use Rattle.simd_json_check.specs.Locations.{is_control_inside, bad_string, next_position, place_of, line_of, column_of}
+use Rattle.simd_json_check.specs.Locations.{is_control_inside, bad_string, next_position, place_of, line_at, column_of}
 use Rattle.simd_json_check.specs.declared.location.Location.{Location}
 use Rattle.simd_json_check.specs.declared.location.reason.Reason.{Reason}
 use Rattle.simd_json_check.specs.declared.location.reason.Reason.TheVariants as reasons
@@ -114,7 +114,7 @@ shown_byte b e _ = place_of b e
 
 abbrev pub located : List ℕ → Error → Reason → ℕ → Location
 located b e reason byte =
-    record { error = e; byte = byte; line = line_of b byte; column = column_of b byte; reason = reason }
+    record { error = e; byte = byte; line = line_at b byte; column = column_of b byte; reason = reason }
 
 unfoldable pub location_of : List ℕ → Error → Location
 location_of b e = located b e (reason_of b e) (shown_byte b e (reason_of b e))

@@ -3,6 +3,6 @@ use Rattle.std.specs.Prelude.{◌≡◌, ℕ, List, None}
 use Rattle.simd_json_parts.specs.InputFaults.{input_fault}
 use Rattle.simd_json_parts.specs.Positions.{positions}
 
-pub record IsScanned (b is : List ℕ) : Type 0 where
+pub record IsWholeScan (b is : List ℕ) : Type 0 where
   pub listed : is ≡ positions b
   pub whole : input_fault b ≡ None

@@ -2,8 +2,10 @@
 //! second stage of a parse over a copy of the input, into a sink that keeps no node.
 ghost use Rattle.std.specs.Prelude.{◌≡◌, ◌≤◌, ◌<◌, ◌⊎◌, ◌++◌, ◌∷◌, [], List, length};
 ghost use Rattle.std.specs.Prelude.{Ok, Err, IsTrue, OnOk, IfErr, min, max};
+ghost use Rattle.std.specs.Result.{result_err};
 ghost use Rattle.std.specs.Vec.{vec_capacity};
-ghost use Rattle.simd_json_check.specs.Capacities.{KeepsCapacities, LacksMemory, IsUnchecked};
+ghost use Rattle.simd_json_check.specs.Capacities.{IsNoShorter, LacksMemory, IsUnchecked};
+ghost use Rattle.simd_json_check.specs.Capacities.{positions_after};
 ghost use Rattle.simd_json_parts.specs.Answer.{answer};
 ghost use Rattle.simd_json_parts.specs.Descent.{descent};
 ghost use Rattle.simd_json_parts.specs.Document.{Document};
@@ -14,8 +16,9 @@ ghost use Rattle.simd_json_stages.specs.Building.{header_of};
 ghost use Rattle.simd_json_stages.specs.Scans.{IsScanOf};
 ghost use base.Fml.{ftrue};
 
+use crate::FEW_OPEN;
 use crate::escapes::are_escapes_valid;
-use crate::index::Index;
+use crate::index::{Index, in_use};
 use crate::lists::lengthen;
 use crate::nested::value_end;
 use simd_json_parts::error::Result;
@@ -23,9 +26,6 @@ use simd_json_parts::node::StaticNode;
 use simd_json_stages::stage2::{Container, NodeSink, Original, Scanned, StackState, build_tape};
 use std::alloc::Allocator;
 use std::marker::{Brand, Model};
-
-// For how many open containers there is a stack that is not allocated.
-const FEW_OPEN: usize = 64;
 
 impl<A: Allocator> Index<A> {
     /// Finds the structural indexes of an input, as [`find`](Index::find) does, and checks all of
@@ -42,7 +42,8 @@ impl<A: Allocator> Index<A> {
     ///   (section 9)
     ///
     /// Returns `OutOfMemory` if an allocation fails: only if size and encoding are right, and only
-    /// if there is no capacity for as many bytes as the input has.
+    /// if there is no capacity for as many bytes as the input has. After an error without a
+    /// character nothing is listed; otherwise the structural indexes of the input are.
     ///
     /// The input stays unchanged. A document with at most 64 containers open at a time is checked
     /// in place, without memory but for the structural indexes. For any other input the second
@@ -66,20 +67,23 @@ impl<A: Allocator> Index<A> {
     /// ```
     pub fn check(&mut self, input: &[u8], max_depth: usize) -> Result<()>
         ensures document { OnOk result ((d : Document) × (answer input.now max_depth ≡ Ok d)) }
-        ensures indexes { OnOk result (self.new.listed ≡ positions input.now) }
-        ensures kept { KeepsCapacities self.old self.new }
+        ensures listed { self.new.listed ≡ positions_after input.now (result_err result) }
+        ensures kept { IsNoShorter self.old self.new }
         ensures fault { IfErr result (λ e. (answer input.now max_depth ≡ Err e)
             ⊎ IsUnchecked input.now max_depth self.old e) }
     {
         self.find(input)?;
-        let scanned = Scanned {
-            structural_indexes: &self.indexes[..self.used],
-            escape_blocks: &self.escape_blocks[..self.used_blocks],
-        };
+        let scanned = in_use(&self.indexes, &self.escape_blocks, self.used);
         if is_document(input, scanned, max_depth) {
             return Ok(());
         }
-        parse_copy(&mut self.copy, &mut self.stack, input, scanned, max_depth)
+        let parsed = parse_copy(&mut self.copy, &mut self.stack, input, scanned, max_depth);
+        if let Err(e) = &parsed
+            && e.character().is_none()
+        {
+            self.clear();
+        }
+        parsed
     }
 }
 

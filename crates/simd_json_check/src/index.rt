@@ -1,15 +1,15 @@
 //! The structural indexes of one input after another.
-ghost use Rattle.std.specs.Prelude.{◌≡◌, ◌≤◌, ◌<◌, max, None};
+ghost use Rattle.std.specs.Prelude.{◌≡◌, ◌≤◌, ◌<◌, length, max, take, None};
 ghost use Rattle.std.specs.Prelude.{[], IfOk, OnOk, IfErr, OnErr};
 ghost use Rattle.simd_json_check.specs.Capacities.{capacity, capped, new_index};
-ghost use Rattle.simd_json_check.specs.Capacities.{KeepsCapacities, IsOutOfMemory, IsRejected};
+ghost use Rattle.simd_json_check.specs.Capacities.{IsNoShorter, IsOutOfMemory, IsFindError};
 ghost use Rattle.simd_json_parts.specs.InputFaults.{input_fault};
 ghost use Rattle.simd_json_parts.specs.Positions.{positions};
 ghost use Rattle.simd_json_stages.specs.EscapeBlocks.{backslash_blocks, blocks_in};
 
 use crate::lists::lengthen;
 use simd_json_parts::error::Result;
-use simd_json_stages::stage1::{BLOCK_LEN, BlockStage1Parse, Stage1Parse};
+use simd_json_stages::stage1::{BLOCK_LEN, BlockStage1Parse, Found, Stage1Parse};
 use simd_json_stages::stage2::{Scanned, StackState};
 use std::alloc::{Allocator, Global};
 use std::marker::Model;
@@ -24,12 +24,10 @@ use std::marker::Model;
 pub struct Index<A: Allocator = Global> {
     // structural indexes (byte indexes into the input), and entries not in use
     pub(crate) indexes: Vec<u32, A>,
-    // how many of these are in use, from the front
-    pub(crate) used: usize,
     // numbers of blocks of 64 bytes that hold a backslash, and entries not in use
     pub(crate) escape_blocks: Vec<u32, A>,
-    // how many of these are in use, from the front
-    pub(crate) used_blocks: usize,
+    // how many of either are in use, from the front
+    pub(crate) used: Found,
     // the copy of an input that a check parses, and its stack, in use only during a check
     pub(crate) copy: Vec<u8, A>,
     pub(crate) stack: Vec<StackState, A>,
@@ -38,15 +36,15 @@ pub struct Index<A: Allocator = Global> {
 impl<A: Allocator> Model for Index<A> {
     ghost use Rattle.std.specs.Prelude.{◌≤◌, length};
     ghost use Rattle.std.specs.Vec.{vec_capacity};
-    ghost use Rattle.simd_json_check.specs.Capacities.{Capacities, capacities_of};
+    ghost use Rattle.simd_json_check.specs.Capacities.{IndexCapacities, capacities_of};
 
-    ghost Value = { Capacities };
+    ghost Value = { IndexCapacities };
 
-    ghost view = { λ i. capacities_of i.indexes.items i.used
-        i.escape_blocks.items i.used_blocks (vec_capacity i.copy) (length i.stack.items) };
+    ghost view = { λ i. capacities_of i.indexes.items i.used.positions i.escape_blocks.items
+        i.used.escape_blocks (vec_capacity i.copy) (length i.stack.items) };
 
-    ghost invariant = { λ i. (i.used ≤ length i.indexes.items)
-        × (i.used_blocks ≤ length i.escape_blocks.items) };
+    ghost invariant = { λ i. (i.used.positions ≤ length i.indexes.items)
+        × (i.used.escape_blocks ≤ length i.escape_blocks.items) };
 }
 
 impl<A: Allocator + Copy> Index<A> {
@@ -56,9 +54,8 @@ impl<A: Allocator + Copy> Index<A> {
     {
         Index {
             indexes: Vec::new(a),
-            used: 0,
             escape_blocks: Vec::new(a),
-            used_blocks: 0,
+            used: NONE,
             copy: Vec::new(a),
             stack: Vec::new(a),
         }
@@ -92,7 +89,7 @@ impl<A: Allocator> Index<A> {
           indexes = max self.old.indexes (capped input_len);
           blocks = max self.old.blocks (blocks_in (capped input_len));
         }) }
-        ensures kept { KeepsCapacities self.old self.new }
+        ensures kept { IsNoShorter self.old self.new }
         ensures same { (self.new.listed ≡ self.old.listed)
             × (self.new.escapes ≡ self.old.escapes) }
         ensures fault { IfErr result (λ e. IsOutOfMemory e
@@ -126,17 +123,15 @@ impl<A: Allocator> Index<A> {
         ensures escapes { OnOk result (self.new.escapes ≡ backslash_blocks input.now) }
         ensures whole { OnOk result (input_fault input.now ≡ None) }
         ensures empty { OnErr result (self.new.listed ≡ []) }
-        ensures kept { KeepsCapacities self.old self.new }
-        ensures fault { IfErr result (λ e. IsRejected input.now self.old e) }
+        ensures kept { IsNoShorter self.old self.new }
+        ensures fault { IfErr result (λ e. IsFindError input.now self.old e) }
     {
-        self.clear();
-        let found = BlockStage1Parse::find_structural_bits(
+        self.used = NONE;
+        self.used = BlockStage1Parse::find_structural_bits(
             input,
             &mut self.indexes,
             &mut self.escape_blocks,
         )?;
-        self.used = found.positions;
-        self.used_blocks = found.escape_blocks;
         Ok(())
     }
 
@@ -144,8 +139,7 @@ impl<A: Allocator> Index<A> {
     pub fn clear(&mut self)
         ensures { self.new ≡ record self.old { listed = []; escapes = [] } }
     {
-        self.used = 0;
-        self.used_blocks = 0;
+        self.used = NONE;
     }
 
     /// What is listed, as the second stage takes it.
@@ -154,17 +148,34 @@ impl<A: Allocator> Index<A> {
         ensures indexes { result.structural_indexes.now ≡ self.now.listed }
         ensures blocks { result.escape_blocks.now ≡ self.now.escapes }
     {
-        Scanned {
-            structural_indexes: &self.indexes[..self.used],
-            escape_blocks: &self.escape_blocks[..self.used_blocks],
-        }
+        in_use(&self.indexes, &self.escape_blocks, self.used)
     }
 
-    /// The structural indexes that are listed: those of the last input, if there was no error of
-    /// the whole input, else none.
+    /// The structural indexes that are listed: those of the last input, or none after an error
+    /// without a character.
     pub fn structural_indexes(&self) -> &[u32]
         ensures { result.now ≡ self.now.listed }
     {
-        &self.indexes[..self.used]
+        &self.indexes[..self.used.positions]
+    }
+}
+
+// No entry is in use.
+const NONE: Found = Found {
+    positions: 0,
+    escape_blocks: 0,
+};
+
+// The entries in use of two lists, as the second stage takes them.
+#[inline(always)]
+pub(crate) fn in_use<'s>(indexes: &'s [u32], escape_blocks: &'s [u32], used: Found) -> Scanned<'s>
+    requires { (used.positions ≤ length indexes.now)
+        × (used.escape_blocks ≤ length escape_blocks.now) }
+    ensures indexes { result.structural_indexes.now ≡ take used.positions indexes.now }
+    ensures blocks { result.escape_blocks.now ≡ take used.escape_blocks escape_blocks.now }
+{
+    Scanned {
+        structural_indexes: &indexes[..used.positions],
+        escape_blocks: &escape_blocks[..used.escape_blocks],
     }
 }

@@ -61,3 +61,6 @@ pub use simd_json_parts::error::{Error, ErrorType, Result};
 
 /// How many containers may be open at a time, unless another limit is given.
 pub const DEFAULT_MAX_DEPTH: usize = 1024;
+
+/// For how many open containers there is a stack that is not allocated.
+pub const FEW_OPEN: usize = 64;

@@ -1,6 +1,6 @@
 //! Where an input is wrong and why, for people.
 ghost use Rattle.std.specs.Prelude.{◌≡◌, ◌≤◌, length, IfOk, OnErr};
-ghost use Rattle.simd_json_check.specs.Capacities.{KeepsCapacities};
+ghost use Rattle.simd_json_check.specs.Capacities.{IsNoShorter};
 ghost use Rattle.simd_json_check.specs.Reasons.{found_in, location_of, shown_byte};
 ghost use Rattle.simd_json_parts.specs.Limits.{max_length};
 
@@ -125,7 +125,7 @@ impl<A: Allocator> Index<A> {
     pub fn locate(&mut self, input: &[u8], max_depth: usize) -> Result<Option<Location>, AllocError>
         ensures found { IfOk result (λ found. found ≡ found_in input.now max_depth) }
         ensures size { OnErr result (length input.now ≤ max_length) }
-        ensures kept { KeepsCapacities self.old self.new }
+        ensures kept { IsNoShorter self.old self.new }
     {
         match self.check(input, max_depth).err() {
             None => Ok(None),

@@ -1,7 +1,7 @@
 //! Whether structural indexes are those of a value, within so many nested containers. Nothing is
 //! kept of it, and one error is as good as another.
 ghost use Rattle.std.specs.Prelude.{◌≡◌, ◌<◌, ◌≤◌, length, drop, slice_index, IfSome};
-ghost use Rattle.simd_json_check.specs.Scanned.{IsScanned};
+ghost use Rattle.simd_json_check.specs.Scanned.{IsWholeScan};
 ghost use Rattle.simd_json_check.specs.Whole.{AreStringsRead, IsElements, IsMembers, IsValue};
 ghost use Rattle.simd_json_parts.specs.Bytes.{byte_at};
 
@@ -11,7 +11,7 @@ use crate::scalars::is_scalar;
 #[inline(always)]
 #[tactic(auto, using(crate::proofs::Scans::within))]
 fn first_byte(input: &[u8], indexes: &[u32], at: usize) -> u8
-    requires scanned { IsScanned input.now indexes.now }
+    requires scanned { IsWholeScan input.now indexes.now }
     requires at { at < length indexes.now }
     ensures { result ≡ byte_at input.now (slice_index indexes.now at) }
 {
@@ -22,7 +22,7 @@ fn first_byte(input: &[u8], indexes: &[u32], at: usize) -> u8
 #[inline(always)]
 #[tactic(auto, using(crate::proofs::Scans::within))]
 fn from_token<'i>(input: &'i [u8], indexes: &[u32], at: usize) -> &'i [u8]
-    requires scanned { IsScanned input.now indexes.now }
+    requires scanned { IsWholeScan input.now indexes.now }
     requires at { at < length indexes.now }
     ensures bytes { result.now ≡ drop (slice_index indexes.now at) input.now }
     ensures some { 0 < length result.now }
@@ -36,7 +36,7 @@ fn from_token<'i>(input: &'i [u8], indexes: &[u32], at: usize) -> &'i [u8]
 #[inline(always)]
 #[cycle(nested)]
 pub(crate) fn value_end(input: &[u8], indexes: &[u32], at: usize, levels: usize) -> Option<usize>
-    requires scanned { IsScanned input.now indexes.now }
+    requires scanned { IsWholeScan input.now indexes.now }
     requires at { at < length indexes.now }
     requires strings { AreStringsRead input.now indexes.now }
     ensures value { IfSome result (IsValue input.now indexes.now levels at) }
@@ -69,7 +69,7 @@ pub(crate) fn value_end(input: &[u8], indexes: &[u32], at: usize, levels: usize)
 #[inline(never)]
 #[cycle(nested)]
 fn array_end(input: &[u8], indexes: &[u32], start: usize, levels: usize) -> Option<usize>
-    requires scanned { IsScanned input.now indexes.now }
+    requires scanned { IsWholeScan input.now indexes.now }
     requires start { start ≤ length indexes.now }
     requires strings { AreStringsRead input.now indexes.now }
     ensures elements { IfSome result (IsElements input.now indexes.now levels start) }
@@ -104,7 +104,7 @@ fn array_end(input: &[u8], indexes: &[u32], start: usize, levels: usize) -> Opti
 #[inline(never)]
 #[cycle(nested)]
 fn object_end(input: &[u8], indexes: &[u32], start: usize, levels: usize) -> Option<usize>
-    requires scanned { IsScanned input.now indexes.now }
+    requires scanned { IsWholeScan input.now indexes.now }
     requires start { start ≤ length indexes.now }
     requires strings { AreStringsRead input.now indexes.now }
     ensures members { IfSome result (IsMembers input.now indexes.now levels start) }

@@ -25,7 +25,7 @@ use Rattle.simd_json_parts.specs.declared.error.Error.{Error}
 use Rattle.simd_json_scalars.specs.StringDecoded.{IsDecoded}
 use Rattle.simd_json_scalars.specs.StringRead.{further}
 use Rattle.simd_json_ondemand.specs.Docs.{text, places, index_of, HasEscape, string_len}
-use Rattle.simd_json_check.specs.Scanned.{IsScanned}
+use Rattle.simd_json_check.specs.Scanned.{IsWholeScan}
 use Rattle.simd_json_check.specs.Scalars.{scalar_of}
 use Rattle.simd_json_ondemand.specs.declared.value.Value.{Value}
 use Rattle.simd_json_check.proofs.Scans.{within}
@@ -38,7 +38,7 @@ pub record IsQuoted (bs : List ℕ) : Type 0 where
   pub closing : closing_quote bs 0 < length bs
   pub utf8 : IsUtf8 bs
 
-pub quoted : (b is : List ℕ) → IsScanned b is → (k : ℕ) → k < length is → byte_at b (get_or is k 0) ≡ quote
+pub quoted : (b is : List ℕ) → IsWholeScan b is → (k : ℕ) → k < length is → byte_at b (get_or is k 0) ≡ quote
     → IsQuoted (drop (get_or is k 0) b)
 quoted b is s k l e =
     let i : ℕ = get_or is k 0 in

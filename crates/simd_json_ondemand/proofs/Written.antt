@@ -15,7 +15,7 @@ use Rattle.simd_json_ondemand.specs.Closing.{closed_at, first_bytes, is_opening,
 use Rattle.simd_json_ondemand.specs.Remaining.{value_at_first}
 use Rattle.simd_json_ondemand.specs.Viewed.{first_read, read_along}
 use Rattle.simd_json_ondemand.specs.Standing.{opens_array, opens_object, literal_end}
-use Rattle.simd_json_check.specs.Scanned.{IsScanned}
+use Rattle.simd_json_check.specs.Scanned.{IsWholeScan}
 use Rattle.simd_json_ondemand.specs.Docs.{doc, text, index_of, form, literal}
 use Rattle.simd_json_ondemand.specs.Written.{last_index, enclosed, written}
 use Rattle.simd_json_ondemand.specs.declared.value.Value.{Value}
@@ -34,7 +34,7 @@ rising is rise j (suc n) l =
     let next : j + n + 1 ≡ j + suc n = omega arith in
     omega (arith, rising is rise j n (omega arith), rise (j + n) (omega arith), ap (λ m. get_or is m 0) next)
 
-pub ordered : (b is : List ℕ) → IsScanned b is → (j k : ℕ) → j ≤ k → k < length is → get_or is j 0 ≤ get_or is k 0
+pub ordered : (b is : List ℕ) → IsWholeScan b is → (j k : ℕ) → j ≤ k → k < length is → get_or is j 0 ≤ get_or is k 0
 ordered b is s j k o l =
     let there : j + (k - j) ≡ k = omega arith in
     omega (

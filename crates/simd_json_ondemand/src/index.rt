@@ -2,7 +2,7 @@
 ghost use Rattle.std.specs.Prelude.{◌≡◌, ◌≤◌, ◌<◌, ◌⊎◌, ℕ, max, Ok, Err, Some, None};
 ghost use Rattle.std.specs.Prelude.{[], IfOk, OnOk, IfErr, OnErr};
 ghost use Rattle.simd_json_check.specs.Capacities.{capacity, capped, new_index};
-ghost use Rattle.simd_json_check.specs.Capacities.{KeepsCapacities, IsOutOfMemory, IsRejected};
+ghost use Rattle.simd_json_check.specs.Capacities.{IsNoShorter, IsOutOfMemory, IsFindError};
 ghost use Rattle.simd_json_check.specs.Capacities.{IsUnchecked};
 ghost use Rattle.simd_json_parts.specs.Answer.{answer};
 ghost use Rattle.simd_json_parts.specs.Document as parts;
@@ -26,9 +26,9 @@ pub struct Index<A: Allocator = Global> {
 }
 
 impl<A: Allocator> Model for Index<A> {
-    ghost use Rattle.simd_json_check.specs.Capacities.{Capacities};
+    ghost use Rattle.simd_json_check.specs.Capacities.{IndexCapacities};
 
-    ghost Value = { Capacities };
+    ghost Value = { IndexCapacities };
 
     ghost view = { λ i. i.inner };
 }
@@ -73,7 +73,7 @@ impl<A: Allocator> Index<A> {
           indexes = max self.old.indexes (capped input_len);
           blocks = max self.old.blocks (blocks_in (capped input_len));
         }) }
-        ensures kept { KeepsCapacities self.old self.new }
+        ensures kept { IsNoShorter self.old self.new }
         ensures same { (self.new.listed ≡ self.old.listed)
             × (self.new.escapes ≡ self.old.escapes) }
         ensures fault { IfErr result (λ e. IsOutOfMemory e
@@ -119,7 +119,7 @@ impl<A: Allocator> Index<A> {
         ensures whole { OnOk result (input_fault input.now ≡ None) }
         ensures document { IfOk result (λ document. (d : parts.Document) (limit : ℕ)
             → answer input.now limit ≡ Ok d → root document ≡ Some d) }
-        ensures fault { IfErr result (λ e. IsRejected input.now self.old e) }
+        ensures fault { IfErr result (λ e. IsFindError input.now self.old e) }
     {
         self.fill(input)?;
         Ok(self.document(input))
@@ -136,8 +136,8 @@ impl<A: Allocator> Index<A> {
         ensures escapes { OnOk result (self.new.escapes ≡ backslash_blocks input.now) }
         ensures whole { OnOk result (input_fault input.now ≡ None) }
         ensures empty { OnErr result (self.new.listed ≡ []) }
-        ensures kept { KeepsCapacities self.old self.new }
-        ensures fault { IfErr result (λ e. IsRejected input.now self.old e) }
+        ensures kept { IsNoShorter self.old self.new }
+        ensures fault { IfErr result (λ e. IsFindError input.now self.old e) }
     {
         self.inner.find(input)
     }

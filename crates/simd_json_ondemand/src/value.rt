@@ -1,6 +1,6 @@
 //! A document, and a value in it: places among the structural indexes.
 ghost use Rattle.std.specs.Prelude.{◌≡◌, ◌<◌, length};
-ghost use Rattle.simd_json_check.specs.Scanned.{IsScanned};
+ghost use Rattle.simd_json_check.specs.Scanned.{IsWholeScan};
 
 /// An input whose structural indexes are known. Whether it is a document of the grammar is tested
 /// only where values are read.
@@ -8,7 +8,7 @@ ghost use Rattle.simd_json_check.specs.Scanned.{IsScanned};
 pub struct Document<'d> {
     pub(crate) input: &'d [u8],
     pub(crate) indexes: &'d [u32],
-    ghost scanned: { IsScanned input.now indexes.now },
+    ghost scanned: { IsWholeScan input.now indexes.now },
 }
 
 /// A value of a document, or what is found in the place of one.
@@ -28,7 +28,7 @@ impl<'d> Document<'d> {
 
     // Of an input, and the structural indexes that were found in it.
     pub(crate) fn new(input: &'d [u8], indexes: &'d [u32]) -> Document<'d>
-        requires { IsScanned input.now indexes.now }
+        requires { IsWholeScan input.now indexes.now }
         ensures input { text result ≡ input.now }
         ensures indexes { places result ≡ indexes.now }
     {

@@ -12,9 +12,9 @@ use Rattle.simd_json_parts.specs.Limits.{max_length}
 use Rattle.simd_json_parts.specs.Nodes.{Item}
 use Rattle.simd_json_parts.specs.declared.error.Error.{Error}
 use Rattle.simd_json_parts.specs.declared.error.ErrorType.TheVariants.{OutOfMemory}
-use Rattle.simd_json_check.specs.Capacities.{IsOutOfMemory, LacksMemory}
+use Rattle.simd_json_check.specs.Capacities.{IsOutOfMemory, LacksMemory, positions_after}
 use Rattle.simd_json.specs.Parsed.{HasMemory}
-use Rattle.simd_json.specs.Parsed.{IsParse, IsPaddedParse, IsRejected, answered_nodes, positions_after}
+use Rattle.simd_json.specs.Parsed.{IsParse, IsPaddedParse, IsRejected, answered_nodes}
 use Rattle.simd_json.proofs.Parses.ParseEnds.{input-character, input-memory, token-memory}
 
 abbrev AsAnswered : List ℕ → ℕ → Option Error → List Item → List ℕ → Type 0

@@ -1,33 +1,29 @@
 -- How a parse ends: with a tape, with the fault of a token or of the whole input, or for want of memory.
-use Rattle.std.proofs.Common.{◌≡◌, ◌≢◌, ◌∙◌, ap, sym, subst, ◌<◌, ◌≤◌, ℕ, List, [], length, Bool, true, false, not, Some, None}
-use Rattle.std.proofs.Common.{Option, Ok, Err, refl, arith, cond, Result, min, ◌⊎◌, inl, inr, IsUtf8, is_some, nat_lt}
+use Rattle.std.proofs.Common.{◌≡◌, ◌≢◌, ◌∙◌, ap, sym, subst, ◌<◌, ◌≤◌, ℕ, List, [], length, Bool, true, false, Some, None}
+use Rattle.std.proofs.Common.{Option, Ok, Err, refl, arith, cond, Result, min, ◌⊎◌, inl, inr, is_some, nat_lt}
 use Rattle.std.specs.Result.{IsErrAnd, IfErr, OnOk, OnErr, result_err}
-use Rattle.std.specs.Str.{is_utf8}
+use Rattle.simd_json_check.proofs.Whole.{few-positions}
+use Rattle.simd_json_parts.proofs.Documents.Fronts.{positive}
 use Rattle.simd_json_theorems.proofs.Faults.Kinds.{input-fault, token-fault}
-use Rattle.simd_json_parts.proofs.Positions.ScannedInputs.{fault-by_size}
-use Rattle.std.proofs.lemmas.Option.{none-some}
-use Rattle.std.proofs.lemmas.Str.{IsUtf8-from_is_utf8}
 use Rattle.std.proofs.lemmas.Bool.{cond_both, ltb-false, ltb-true, lt-ltb, false≢true}
 use Rattle.simd_json_parts.specs.Descent.{descent}
-use Rattle.simd_json_parts.specs.Document.{Document, null, boolean, integer, decimal, string, array, object}
+use Rattle.simd_json_parts.specs.Document.{Document}
 use Rattle.simd_json_parts.specs.FaultKinds.{IsOfInput, IsOfToken, is_input_kind, is_token_kind}
-use Rattle.simd_json_parts.specs.Faults.{whole_fault}
-use Rattle.simd_json_parts.specs.InputFaults.{input_fault, scan_fault}
-use Rattle.simd_json_parts.specs.Limits.{max_length}
+use Rattle.simd_json_parts.specs.InputFaults.{input_fault}
 use Rattle.simd_json_parts.specs.Listing.{listing}
 use Rattle.simd_json_parts.specs.Nodes.{Item}
 use Rattle.simd_json_parts.specs.Positions.{positions}
 use Rattle.simd_json_parts.specs.declared.error.Error.{Error}
 use Rattle.simd_json_check.specs.Capacities.{IsOutOfMemory, LacksMemory}
-use Rattle.simd_json.specs.Parsed.{IsParse, IsParsed, IsRejected, written}
+use Rattle.simd_json.specs.Parsed.{IsParse, IsParsed, IsRejected, nodes_written}
 use Rattle.simd_json.specs.Capacities.{KeepsCapacities, Capacities, capacity}
 use Rattle.simd_json_check.specs.Capacities as lists
 use Rattle.simd_json.specs.Reserved.{bytes_listed}
 use Rattle.simd_json_stages.specs.Building.{IsWritten}
 use Rattle.simd_json_stages.specs.NodesEnough.{nodes_enough}
 use Rattle.simd_json_stages.specs.Rejections.{IsTokenFault}
-use Rattle.simd_json.specs.Tapes.{IsTape}
-use Rattle.simd_json.proofs.Parses.ParseLaws.{few-positions, rejected-token, rejected-whole, tape-parsed, written-parsed}
+use Rattle.simd_json.specs.Tapes.{IsTapeContent}
+use Rattle.simd_json.proofs.Parses.ParseLaws.{rejected-token, rejected-whole, tape-parsed, written-parsed}
 
 -- ---- what a fault carries
 
@@ -44,13 +40,7 @@ token-memory e named lacks = false≢true (sym (ap (λ x. is_token_kind x.error)
 -- ---- what is parsed has a node
 
 listing-some : (d : Document) → listing d ≢ []
-listing-some null h = cc
-listing-some (boolean b) h = cc
-listing-some (integer minus n) h = cc
-listing-some (decimal literal) h = cc
-listing-some (string t) h = cc
-listing-some (array ds) h = cc
-listing-some (object ms) h = cc
+listing-some d none = omega (arith, positive d, ap length none)
 
 pub parsed-some : (b : List ℕ) (limit : ℕ) (nodes : List Item) → IsParsed b limit nodes → nodes ≢ []
 parsed-some b limit nodes p none = listing-some p.document (sym p.listed ∙ none)
@@ -118,25 +108,11 @@ parse-unread r b limit least capacity e nodes listed err n l less cause =
     by_cause (inl whole) = parse-whole b limit least e whole
     by_cause (inr (lacks, short)) = parse-lacking b limit least e lacks (omega (arith, short, less))
 
--- ---- size and encoding
-
-right-in : (p q : Bool) (o : Option Error) (e f : Error) → cond p (Some e) (cond (not q) (Some f) o) ≡ None → (p ≡ false) × (q ≡ true)
-right-in true q o e f is = absurd (none-some e (sym is))
-right-in false true o e f is = (refl, refl)
-right-in false false o e f is = absurd (none-some f (sym is))
-
--- where nothing is wrong with the whole, size and encoding are right
-pub right-input : (b : List ℕ) → input_fault b ≡ None → (length b ≤ max_length) × IsUtf8 b
-right-input b none =
-    let right = right-in (nat_lt max_length (length b)) (is_utf8 b) (scan_fault b) (whole_fault _) (whole_fault _)
-    (sym (fault-by_size b) ∙ none) in
-    (ltb-false max_length (length b) right.0, IsUtf8-from_is_utf8 b right.1)
-
 -- ---- the second stage
 
 -- what it leaves is a tape, and no empty one after it
 pub built-tape : {A : Type 0} (r : Result A Error) (b : List ℕ) (limit : ℕ) (nodes : List Item) → input_fault b ≡ None
-    → OnOk r (IsWritten b limit nodes) → OnErr r (nodes ≡ []) → IsTape nodes
+    → OnOk r (IsWritten b limit nodes) → OnErr r (nodes ≡ []) → IsTapeContent nodes
 built-tape (Ok x) b limit nodes none built empty = tape-parsed b limit nodes (written-parsed b limit nodes none built)
 built-tape (Err e) b limit nodes none built empty = inl empty
 
@@ -149,7 +125,7 @@ built-some (Err e) b limit nodes none built = tt
 pub parse-written : (r : Result (Unit {0}) Error) (b : List ℕ) (limit capacity : ℕ) (nodes : List Item) (listed : List ℕ)
     → input_fault b ≡ None → OnOk r (IsWritten b limit nodes) → OnOk r (length nodes ≤ length (positions b))
     → IfErr r (λ e. IsTokenFault e × (descent b limit ≡ Err e)) → listed ≡ positions b
-    → IsParse b limit capacity (result_err r) (written r nodes) listed
+    → IsParse b limit capacity (result_err r) (nodes_written r nodes) listed
 parse-written (Ok x) b limit capacity nodes listed none built few rejected l =
     parse-at None None nodes nodes (positions b) listed refl refl l
     (parse-done b limit capacity nodes (written-parsed b limit nodes none built) few)
@@ -157,19 +133,13 @@ parse-written (Err e) b limit capacity nodes listed none built few rejected l =
     parse-at (Some e) (Some e) [] [] (positions b) listed refl refl l
     (parse-token b limit capacity e (rejected-token b limit e none rejected.1) (token-fault b limit e rejected.1))
 
-pub unwritten : (r : Result (Unit {0}) Error) (e : Error) (nodes : List Item) → IsErrAnd r (λ x. x ≡ e) → written r nodes ≡ []
+pub unwritten : (r : Result (Unit {0}) Error) (e : Error) (nodes : List Item) → IsErrAnd r (λ x. x ≡ e) → nodes_written r nodes ≡ []
 unwritten (Ok x) e nodes is = absurd is
 unwritten (Err x) e nodes is = refl
 
-pub written-all : (r : Result (Unit {0}) Error) (nodes : List Item) → OnErr r (nodes ≡ []) → written r nodes ≡ nodes
+pub written-all : (r : Result (Unit {0}) Error) (nodes : List Item) → OnErr r (nodes ≡ []) → nodes_written r nodes ≡ nodes
 written-all (Ok x) nodes empty = refl
 written-all (Err e) nodes empty = sym empty
-
--- where nothing is wrong with the whole, so many nodes are enough
-pub nodes-within : (b : List ℕ) (limit room : ℕ) → input_fault b ≡ None → max_length ≤ room
-    → nodes_enough (length (positions b)) limit ≤ room
-unfolding nodes_enough
-nodes-within b limit room none l = omega (arith, l, few-positions b, (right-input b none).0)
 
 -- so many nodes are enough for as many bytes, and what is too few for so many positions is for fewer
 pub bytes-enough : (len limit nodes : ℕ) → nodes_enough len limit ≤ nodes → len ≤ bytes_listed limit nodes

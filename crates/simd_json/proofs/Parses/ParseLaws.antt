@@ -1,17 +1,15 @@
 -- From what the steps of a parse find to what the definitions answer.
-use Rattle.std.proofs.Common.{◌≡◌, ◌∙◌, ap, sym, ◌≤◌, ℕ, List, length, true, Some, None, Ok, Err, arith, map, inl, inr}
+use Rattle.std.proofs.Common.{◌≡◌, ◌∙◌, ap, sym, ℕ, List, true, Some, None, Ok, Err, map, inl, inr}
 use Rattle.std.proofs.Common.{false, refl, is_some, Option, Result, subst, ◌⊎◌}
 use Rattle.std.specs.Result.{is_err}
 use Rattle.std.proofs.lemmas.Bool.{false≢true}
-use Rattle.std.proofs.lemmas.List.Sums.{length-filter, count_by-le-length}
-use Rattle.std.proofs.lemmas.List.FromFn.{length-range_with_len}
+use Rattle.simd_json_check.proofs.Whole.{descent-answered, fault-answered}
 use Rattle.simd_json_theorems.proofs.Complete.Answer.{answer-Denotes}
 use Rattle.simd_json_theorems.proofs.Faults.Kinds.{input-fault, token-fault}
 use Rattle.simd_json_theorems.proofs.Faults.Root.{fault-reported}
 use Rattle.simd_json_theorems.proofs.Sound.Answer.{answer-sound}
 use Rattle.simd_json_theorems.proofs.Documents.Spelling.{IsSpellable-denoted}
-use Rattle.simd_json_parts.specs.Answer.{answer, fault_or}
-use Rattle.simd_json_parts.specs.Bytes.{indices}
+use Rattle.simd_json_parts.specs.Answer.{answer}
 use Rattle.simd_json_parts.specs.Descent.{descent}
 use Rattle.simd_json_parts.specs.Document.{Document}
 use Rattle.simd_json_parts.specs.ErrorKinds.{is_unexpected_token}
@@ -23,34 +21,11 @@ use Rattle.simd_json_parts.specs.Nodes.{Item, item_of}
 use Rattle.simd_json_parts.specs.declared.node.Node.{Node}
 use Rattle.simd_json_stages.specs.Building.{IsListed, IsWritten}
 use Rattle.simd_json.specs.Parsed.{IsParsed, IsRejected}
-use Rattle.simd_json.specs.Tapes.{IsTape}
+use Rattle.simd_json.specs.Tapes.{IsTapeContent}
 use Rattle.simd_json_parts.specs.InputFaults.{input_fault}
-use Rattle.simd_json_parts.specs.Positions.{positions, is_position}
 use Rattle.simd_json_parts.specs.declared.error.Error.{Error}
 use Rattle.simd_json_parts.specs.declared.error.ErrorType.{ErrorType}
 use Rattle.simd_json_parts.specs.declared.error.ErrorType.TheVariants as errors
-
--- ---- the answer
-
-pub fault-answered : (b : List ℕ) (limit : ℕ) (e : Error) → input_fault b ≡ Some e → answer b limit ≡ Err e
-unfolding answer
-fault-answered b limit e is = ap (λ o. fault_or o (descent b limit)) is
-
-pub none-answered : (b : List ℕ) (limit : ℕ) → input_fault b ≡ None → answer b limit ≡ descent b limit
-unfolding answer
-none-answered b limit is = ap (λ o. fault_or o (descent b limit)) is
-
--- ---- positions
-
--- no more than bytes
-pub few-positions : (b : List ℕ) → length (positions b) ≤ length b
-unfolding positions
-few-positions b = omega (
-  arith,
-  length-filter (is_position b) (indices b),
-  count_by-le-length (is_position b) (indices b),
-  length-range_with_len 0 (length b),
-)
 
 -- ---- rejections
 
@@ -69,7 +44,7 @@ not-answered b limit e is d denoted within = not-both d e (sym (answer-Denotes b
 -- what the second stage rejects
 pub rejected-token : (b : List ℕ) (limit : ℕ) (e : Error) → input_fault b ≡ None → descent b limit ≡ Err e → IsRejected b limit e
 rejected-token b limit e none is =
-    let answered = none-answered b limit none ∙ is in
+    let answered = descent-answered b limit none ∙ is in
     let reported = fault-reported b limit e none is in record {
       answered = answered;
       not_denoted = not-answered b limit e answered;
@@ -102,7 +77,7 @@ rejected-whole b limit e is =
 pub rejected : (b : List ℕ) (limit : ℕ) (e : Error) → answer b limit ≡ Err e → IsRejected b limit e
 rejected b limit e is = by_whole (input_fault b) refl where
   by_whole : (o : Option Error) → input_fault b ≡ o → IsRejected b limit e
-  by_whole None none = rejected-token b limit e none (sym (none-answered b limit none) ∙ is)
+  by_whole None none = rejected-token b limit e none (sym (descent-answered b limit none) ∙ is)
   by_whole (Some f) some =
       subst (IsRejected b limit) (one-error (answer b limit) f e (fault-answered b limit f some) is) (rejected-whole b limit f some)
 
@@ -127,7 +102,7 @@ answered-parsed b limit d answered =
 pub written-parsed : (b : List ℕ) (limit : ℕ) (nodes : List Item) → input_fault b ≡ None → IsWritten b limit nodes
     → IsParsed b limit nodes
 written-parsed b limit nodes none written =
-    let answered : answer b limit ≡ Ok written.document = none-answered b limit none ∙ written.same in
+    let answered : answer b limit ≡ Ok written.document = descent-answered b limit none ∙ written.same in
     let right = answer-sound b limit written.document answered in
     record { document = written.document; denoted = right.0; within = right.1; answered = answered; listed = written.listed }
 
@@ -137,5 +112,5 @@ parsed b limit nodes none listed =
     written-parsed b limit (map item_of nodes) none
     (record { document = listed.document; same = listed.same; listed = listed.listed })
 
-pub tape-parsed : (b : List ℕ) (limit : ℕ) (items : List Item) → IsParsed b limit items → IsTape items
+pub tape-parsed : (b : List ℕ) (limit : ℕ) (items : List Item) → IsParsed b limit items → IsTapeContent items
 tape-parsed b limit items p = inr (p.document, IsSpellable-denoted b p.document p.denoted, p.within.integers, p.listed)

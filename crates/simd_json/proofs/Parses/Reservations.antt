@@ -1,11 +1,15 @@
 -- What a reservation of buffers and tape is for.
-use Rattle.std.proofs.Common.{◌≡◌, ◌∙◌, refl, sym, subst, ◌<◌, ◌≤◌, ℕ, List, length, arith, min, Option}
+use Rattle.std.proofs.Common.{◌≡◌, ◌∙◌, refl, sym, subst, ◌<◌, ◌≤◌, ℕ, List, length, arith, min, max, Option}
+use Rattle.std.proofs.Common.{Bool, true, false, cond, nat_lt, inl, inr}
+use Rattle.std.proofs.lemmas.Bool.{cases_lt, ltb-false}
 use Rattle.simd_json_parts.specs.Nodes.{Item}
 use Rattle.simd_json_parts.specs.declared.error.Error.{Error}
-use Rattle.simd_json.specs.Capacities.{Capacities, KeepsCapacities, capacity}
+use Rattle.simd_json.specs.Capacities.{Capacities, KeepsCapacities, capacity, with_room}
 use Rattle.simd_json.specs.Parsed.{HasMemory}
 use Rattle.simd_json.specs.Parsed.{IsParse}
 use Rattle.simd_json_check.specs.Capacities.{capped}
+use Rattle.simd_json_check.specs.Capacities as lists
+use Rattle.simd_json_stages.specs.EscapeBlocks.{blocks_in}
 use Rattle.simd_json.specs.Reserved.{IsReserved, bytes_listed, parse_capacity}
 use Rattle.simd_json.specs.Tapes.{Listed}
 use Rattle.simd_json_stages.specs.NodesEnough.{nodes_enough}
@@ -48,12 +52,33 @@ pub reserved-now : (len : ℕ) (buffers : Capacities) (tape : Listed) → IsRese
     → length b ≤ len → IsParse b buffers.limit (parse_capacity buffers tape) fault nodes listed → HasMemory fault
 reserved-now len buffers tape is = is buffers tape refl (kept-same buffers) (omega arith)
 
+-- where there is as much capacity, a reservation of buffers changes nothing
+pub room-same : (n : ℕ) (r : Capacities) → n ≤ capacity r → with_room n r ≡ r
+room-same n r l = by_stack (nat_lt r.stack_capacity r.limit) refl l where
+  same : max r.index.indexes n ≡ r.index.indexes → max r.index.blocks (blocks_in n) ≡ r.index.blocks
+      → max r.stack_capacity (min n r.limit) ≡ r.stack_capacity → with_room n r ≡ r
+  same a b c = rw (a, b, c) refl
+
+  by_stack : (t : Bool) → nat_lt r.stack_capacity r.limit ≡ t
+      → n ≤ cond t (min (lists.capacity r.index) r.stack_capacity) (lists.capacity r.index) → with_room n r ≡ r
+  by_stack true is l = same (omega (arith, l)) (omega (arith, l)) (omega (arith, l))
+  by_stack false is l =
+      same (omega (arith, l)) (omega (arith, l)) (omega (arith, l, ltb-false r.stack_capacity r.limit is))
+
 -- the nodes that code asks for
 module _ (len enough : ℕ) (buffers : Capacities) (tape : Listed) (is : enough ≡ nodes_enough (capped len) buffers.limit) where
   pub room : capped len ≤ capacity buffers → enough ≤ tape.capacity → capped len ≤ parse_capacity buffers tape
   room held l =
       let all = bytes-enough (capped len) buffers.limit tape.capacity (subst (λ n. n ≤ tape.capacity) is l) in
       omega (arith, all, held)
+
+  pub enough-nodes : capped len ≤ parse_capacity buffers tape → enough ≤ tape.capacity
+  enough-nodes l = elim (cases_lt tape.capacity enough) [
+    | inl short ↦
+        let few = bytes-short (capped len) buffers.limit tape.capacity (subst (λ n. tape.capacity < n) is short) in
+        absurd (omega (arith, few, l))
+    | inr held ↦ held
+  ]
 
   pub lack : tape.capacity < enough → parse_capacity buffers tape < capped len
   lack l =

@@ -14,7 +14,7 @@ use Rattle.simd_json_parts.specs.Views.{values, is_array, is_object}
 use Rattle.simd_json_parts.specs.declared.node.Node.{Node}
 use Rattle.simd_json.specs.Beneath.{beneath, children}
 use Rattle.simd_json.specs.Descending.{joined, flat, entered, inside, outside, left_in, left_with}
-use Rattle.simd_json.specs.Documents.{elements_of, front, others, front_pairs, other_pairs, AreElements, IsListing, document_of}
+use Rattle.simd_json.specs.Documents.{elements_of, front, other_elements, front_pairs, other_pairs, AreElements, IsListing, document_of}
 use Rattle.simd_json.specs.declared.value.tape.descendants.Level.{Level}
 use Rattle.simd_json.proofs.Views.Beneath.{beneath-few}
 use Rattle.simd_json.proofs.Views.Listed.{elements_of-all, elements_of-listing, front-joined, others-joined, front-flat, others-flat}
@@ -118,10 +118,10 @@ past-finished ls n default within none ds =
 
 begun : (b : Bool) (m n : ℕ) (ls : List Level) (ds : Elements)
     → flat_map (beneath n) (inside b (suc m) ds) ++ left_in (suc n) ls (outside b (suc m) ds)
-    ≡ left_with n (record { is_object = b; left = m } ∷ ls) (cond b (others 1 ds) ds)
+    ≡ left_with n (record { is_object = b; left = m } ∷ ls) (cond b (other_elements 1 ds) ds)
 begun false m n ls no_elements = left-none (suc n) ls
 begun false m n ls (element d ds) =
-    append_assoc (beneath n d) (flat_map (beneath n) (elements (front m ds))) (left_in (suc n) ls (others m ds))
+    append_assoc (beneath n d) (flat_map (beneath n) (elements (front m ds))) (left_in (suc n) ls (other_elements m ds))
 begun true m n ls no_elements = left-none (suc n) ls
 begun true m n ls (element k no_elements) = left-none (suc n) ls
 begun true m n ls (element k (element d ds)) =
@@ -130,7 +130,7 @@ begun true m n ls (element k (element d ds)) =
 pub member-begun : (ls : List Level) (n : ℕ) (default l : Level) → n < length ls → IfSome (slice_get ls n) (λ x. 0 < x.left)
     → l ≡ record { is_object = (get_or ls n default).is_object; left = (get_or ls n default).left - 1 }
     → (ds : Elements)
-    → left_in n (drop n ls) ds ≡ left_with n (drop n (set ls n l)) (cond (get_or (set ls n l) n default).is_object (others 1 ds) ds)
+    → left_in n (drop n ls) ds ≡ left_with n (drop n (set ls n l)) (cond (get_or (set ls n l) n default).is_object (other_elements 1 ds) ds)
 member-begun ls n default l within left is ds =
     let old = get_or ls n default in
     let some : 0 < old.left = subst (λ o. IfSome o (λ x. 0 < x.left)) (slice_get-get_or ls n default within) left in
@@ -139,9 +139,9 @@ member-begun ls n default l within left is ds =
     ap (λ xs. left_in n xs ds) (drop_more ls n default within)
     ∙ ap (λ m. flat_map (beneath n) (inside old.is_object m ds) ++ left_in (suc n) (drop (n + 1) ls) (outside old.is_object m ds)) more
     ∙ begun old.is_object (old.left - 1) n (drop (n + 1) ls) ds
-    ∙ ap (λ (x : Level). left_with n (x ∷ drop (n + 1) ls) (cond x.is_object (others 1 ds) ds)) (sym is)
-    ∙ ap (λ xs. left_with n xs (cond l.is_object (others 1 ds) ds)) (sym (drop-set ls n l within))
-    ∙ ap (λ (x : Level). left_with n (drop n (set ls n l)) (cond x.is_object (others 1 ds) ds))
+    ∙ ap (λ (x : Level). left_with n (x ∷ drop (n + 1) ls) (cond x.is_object (other_elements 1 ds) ds)) (sym is)
+    ∙ ap (λ xs. left_with n xs (cond l.is_object (other_elements 1 ds) ds)) (sym (drop-set ls n l within))
+    ∙ ap (λ (x : Level). left_with n (drop n (set ls n l)) (cond x.is_object (other_elements 1 ds) ds))
     (sym (get_or-set_same ls n l default within))
 
 last : (n : ℕ) (ds : Elements) → left_in n [] ds ≡ left_with n [] ds
@@ -210,8 +210,8 @@ first-few n ls d ds counted is few = omega (arith, ap length (first-left n ls d 
 
 -- of the row it begins with the next member, after the key where it has one
 pub record IsStep (left : Elements → List Document) (n : ℕ) (ls : List Level) (is_pair : Bool) (all begun : Elements) : Type 0 where
-  pub levels : (ds : Elements) → left ds ≡ left_with n ls (cond is_pair (others 1 ds) ds)
-  pub row : begun ≡ cond is_pair (others 1 all) all
+  pub levels : (ds : Elements) → left ds ≡ left_with n ls (cond is_pair (other_elements 1 ds) ds)
+  pub row : begun ≡ cond is_pair (other_elements 1 all) all
 
 pub none-left : (left : Elements → List Document) (n : ℕ) (ls : List Level) (is_pair : Bool) (all begun : Elements)
     → IsStep left n ls is_pair all begun → begun ≡ no_elements → left all ≡ []

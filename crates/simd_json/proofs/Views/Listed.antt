@@ -9,14 +9,15 @@ use Rattle.simd_json_parts.specs.Document.{Document, integer, string, array, obj
 use Rattle.simd_json_parts.specs.Document.{element, elements, Members, no_members, member, members}
 use Rattle.simd_json_parts.specs.Integers.{integer_node}
 use Rattle.simd_json_parts.specs.Listing.{listing, elements_listing, members_listing}
-use Rattle.simd_json.specs.Tapes.{IsTape}
+use Rattle.simd_json.specs.Tapes.{IsTapeContent}
 use Rattle.simd_json_parts.specs.Views.{member_count}
 use Rattle.simd_json_parts.specs.Nodes.{Item, array_item, object_item, item_of}
 use Rattle.simd_json_parts.specs.Headers.{count_of, len_of}
 use Rattle.simd_json_parts.specs.declared.node.Node.{Node}
 use Rattle.simd_json_parts.specs.declared.node.Node.TheVariants as nodes
 use Rattle.simd_json.specs.Descending.{joined, flat}
-use Rattle.simd_json.specs.Documents.{magnitude_below, static_document, first, front, others, in_pairs, front_pairs, other_pairs}
+use Rattle.simd_json.specs.Documents.{magnitude_below, static_document, first_in_row, front, other_elements, in_pairs}
+use Rattle.simd_json.specs.Documents.{front_pairs, other_pairs}
 use Rattle.simd_json.specs.Documents.{elements_of, document_of, members_of, IsListing, AreElements, AreMembers}
 
 pub magnitude-below : (n : ℕ) → magnitude_below (neg_ℤ (pos n)) ≡ n
@@ -38,7 +39,7 @@ pub front-joined : (ds es : Elements) → front (length (elements ds)) (joined d
 front-joined no_elements es = refl
 front-joined (element d ds) es = ap (element d) (front-joined ds es)
 
-pub others-joined : (ds es : Elements) → others (length (elements ds)) (joined ds es) ≡ es
+pub others-joined : (ds es : Elements) → other_elements (length (elements ds)) (joined ds es) ≡ es
 others-joined no_elements es = refl
 others-joined (element d ds) es = others-joined ds es
 
@@ -80,7 +81,7 @@ mutual
       ∙ ap (element d) (elements_of-members ms ns))
 
 pub document_of-listing : (d : Document) → document_of (listing d) ≡ d
-document_of-listing d = ap document_of (sym (append-nil (listing d))) ∙ ap first (elements_of-listing d [])
+document_of-listing d = ap document_of (sym (append-nil (listing d))) ∙ ap first_in_row (elements_of-listing d [])
 
 pub elements_of-all : (ds : Elements) → elements_of (elements_listing ds) ≡ ds
 elements_of-all ds = ap elements_of (sym (append-nil (elements_listing ds))) ∙ elements_of-elements ds [] ∙ joined-none ds
@@ -153,7 +154,7 @@ sized-scalar ns default d rest is no_array no_object =
 pub listing-listed : (xs : List Item) (d : Document) → xs ≡ listing d → IsListing xs
 listing-listed xs d is = ap (λ ns. listing (document_of ns)) is ∙ ap listing (document_of-listing d) ∙ sym is
 
-pub tape-listed : (xs : List Item) → IsTape xs → xs ≢ [] → IsListing xs
+pub tape-listed : (xs : List Item) → IsTapeContent xs → xs ≢ [] → IsListing xs
 tape-listed xs (inl none) some = absurd (some none)
 tape-listed xs (inr (d, spelled, fit, is)) some = listing-listed xs d is
 

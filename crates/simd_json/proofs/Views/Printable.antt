@@ -12,7 +12,7 @@ use Rattle.simd_json_parts.specs.Document.{element, Members, no_members, member}
 use Rattle.simd_json_parts.specs.Integers.{max_magnitude, integer_node}
 use Rattle.simd_json_parts.specs.Limits.{IntegersFit, ElementsFit, MembersFit}
 use Rattle.simd_json_parts.specs.Listing.{listing, elements_listing, members_listing}
-use Rattle.simd_json.specs.Tapes.{IsTape}
+use Rattle.simd_json.specs.Tapes.{IsTapeContent}
 use Rattle.simd_json_parts.specs.Nodes.{Item, static_item, item_of}
 use Rattle.simd_json_parts.specs.Numbers.{decimal_literal}
 use Rattle.simd_json_theorems.specs.Spellable.{IsSpellable, ElementsSpellable, MembersSpellable}
@@ -97,7 +97,7 @@ from-items (n ∷ ns) all =
     All-cons (λ n. IsPrintable (item_of n)) n ns (All-head IsPrintable (item_of n) (map item_of ns) all)
     (from-items ns (All-tail IsPrintable (item_of n) (map item_of ns) all))
 
-pub tape-printable : (ns : List Node) → IsTape (map item_of ns) → ArePrintable ns
+pub tape-printable : (ns : List Node) → IsTapeContent (map item_of ns) → ArePrintable ns
 tape-printable ns (inl none) = from-items ns (subst (All IsPrintable) (sym none) (All-nil IsPrintable))
 tape-printable ns (inr (d, spells, fits, is)) = from-items ns (subst (All IsPrintable) (sym is) (printable d spells fits))
 

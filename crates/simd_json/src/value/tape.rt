@@ -44,13 +44,13 @@ impl<'input, A: Allocator> Model for Tape<'input, A> {
     ghost use Rattle.std.specs.Vec.{vec_capacity};
     ghost use Rattle.simd_json.specs.Tapes.{Listed};
     ghost use Rattle.simd_json.specs.Tapes.{listed_of};
-    ghost use Rattle.simd_json.specs.Tapes.{IsTape};
+    ghost use Rattle.simd_json.specs.Tapes.{IsTapeContent};
 
     ghost Value = { Listed };
 
     ghost view = { λ t. listed_of t.list.items (vec_capacity t.list) };
 
-    ghost invariant = { λ t. IsTape (listed_of t.list.items (vec_capacity t.list)).nodes };
+    ghost invariant = { λ t. IsTapeContent (listed_of t.list.items (vec_capacity t.list)).nodes };
 }
 
 impl<'input, A: Allocator> Tape<'input, A> {
@@ -111,18 +111,19 @@ impl<'input, A: Allocator> Tape<'input, A> {
     }
 
     /// Reserves capacity for `nodes` nodes in total: enough for any input of `nodes` bytes. The
-    /// nodes stay as they are, and capacity never shrinks.
+    /// nodes stay as they are, and capacity never shrinks. Where there is as much, none is taken.
     ///
-    /// Returns `OutOfMemory` where an allocation fails.
+    /// Returns `OutOfMemory` where an allocation fails, and the tape stays as it is.
     pub fn reserve(&mut self, nodes: usize) -> Result<()>
         ensures nodes { self.new.nodes ≡ self.old.nodes }
         ensures kept { self.old.capacity ≤ self.new.capacity }
         ensures capacity { OnOk result (nodes ≤ self.new.capacity) }
+        ensures enough { nodes ≤ self.old.capacity → self.new ≡ self.old }
+        ensures failed { OnErr result (self.new ≡ self.old) }
         ensures fault { IfErr result (λ e. IsOutOfMemory e × (self.old.capacity < nodes)) }
     {
-        let len = self.list.len();
-        if len < nodes {
-            self.list.reserve(nodes - len)?;
+        if self.list.capacity() < nodes {
+            self.list.reserve(nodes - self.list.len())?;
         }
         Ok(())
     }

@@ -3,7 +3,7 @@ ghost use Rattle.std.specs.Prelude.{◌≡◌, ◌-◌, not, length};
 ghost use Rattle.std.specs.List.{suffix_len};
 ghost use Rattle.std.specs.Str.Lossy.{utf8_valid_len};
 ghost use Rattle.simd_json_check.specs.Locations.{begins_character, column_of, is_line_feed};
-ghost use Rattle.simd_json_check.specs.Locations.{line_of};
+ghost use Rattle.simd_json_check.specs.Locations.{line_at};
 ghost use Rattle.simd_json_check.specs.Locations.{place_of, whole_place};
 
 use super::scan::bad_string;
@@ -44,7 +44,7 @@ pub(super) fn valid_len(input: &[u8]) -> usize
 }
 
 pub(super) fn line(input: &[u8], byte: usize) -> usize
-    ensures { result ≡ line_of input.now byte }
+    ensures { result ≡ line_at input.now byte }
 {
     let before = &input[..byte.min(input.len())];
     before.iter().filter(|c| **c == b'\n').count() + 1

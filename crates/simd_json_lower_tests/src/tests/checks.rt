@@ -1,4 +1,5 @@
 //! What an index lists after one input and the next, and the examples of `simd_json_check`.
+use linked_list_allocator::LocalHeap;
 use simd_json_check::{
     DEFAULT_MAX_DEPTH, Error, ErrorType, Index, Location, Reason, Result, locate,
 };
@@ -53,6 +54,20 @@ fn an_index_lists_the_last_input(rt: HostRuntime) {
     assert_eq!(rt; index.structural_indexes(), [0u32; 0].as_slice());
     assert_eq!(rt; index.find(b" ]"), Ok(()));
     assert_eq!(rt; index.structural_indexes(), [1u32].as_slice());
+}
+
+// The copy of a rejected input finds no memory: nothing is listed, as after an error of the whole.
+#[test]
+fn nothing_is_listed_without_memory(rt: HostRuntime) {
+    let heap = LocalHeap::new(rt.alloc(), 1 << 12).expect(&rt, MEMORY);
+    let mut index = Index::new(&heap, 1000).expect(&rt, MEMORY);
+    let mut input = [b' '; 1000];
+    input[999] = b']';
+    let lacking = Error::generic(ErrorType::OutOfMemory);
+    assert_eq!(rt; index.check(&input, 1), Err(lacking));
+    assert_eq!(rt; index.structural_indexes(), [0u32; 0].as_slice());
+    assert_eq!(rt; index.find(&input), Ok(()));
+    assert_eq!(rt; index.structural_indexes(), [999u32].as_slice());
 }
 
 #[test]

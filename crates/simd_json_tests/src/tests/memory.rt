@@ -265,6 +265,41 @@ fn reservations_fail(rt: HostRuntime) {
     assert_eq!(rt; tape.nodes().len(), 3);
 }
 
+// Over an empty tape a reservation succeeds where there is memory, and the next one of as much takes
+// none.
+#[test]
+fn an_empty_tape_is_reserved(rt: HostRuntime) {
+    let mut input = *b"[1,2]";
+    let heap = LocalHeap::new(rt.alloc(), 1 << 16).expect(&rt, MEMORY);
+    let mut buffers = Buffers::empty(&heap, 16);
+    let mut tape = Tape::empty(&heap);
+    assert_eq!(rt; reserve(1500, &mut buffers, &mut tape), Ok(()));
+    assert!(rt; heap.used() >= 1500 * 28 + 16 * 48);
+    let _full = ballast(&rt, &heap, 0);
+    assert_eq!(rt; reserve(1500, &mut buffers, &mut tape), Ok(()));
+    assert_eq!(rt; fill_tape(&mut input, &mut buffers, &mut tape), Ok(()));
+    assert_eq!(rt; tape.nodes().len(), 3);
+}
+
+// Where memory suffices for the buffers alone, these are reserved, and the tape stays empty.
+#[test]
+fn an_empty_tape_lacks_memory(rt: HostRuntime) {
+    let mut input = *b"[1,2]";
+    let heap = LocalHeap::new(rt.alloc(), 1 << 13).expect(&rt, MEMORY);
+    let mut buffers = Buffers::empty(&heap, 16);
+    let mut tape = Tape::empty(&heap);
+    assert_no_memory(&rt, reserve(1500, &mut buffers, &mut tape));
+    assert!(rt; heap.used() >= 1500 * 4 + 24 * 4 + 16 * 24);
+    assert!(rt; tape.is_empty());
+    let full = ballast(&rt, &heap, 0);
+    assert_eq!(rt; buffers.reserve(1500), Ok(()));
+    assert_no_memory(&rt, reserve(1, &mut buffers, &mut tape));
+    drop(full);
+    assert_eq!(rt; reserve(16, &mut buffers, &mut tape), Ok(()));
+    assert_eq!(rt; fill_tape(&mut input, &mut buffers, &mut tape), Ok(()));
+    assert_eq!(rt; tape.nodes().len(), 3);
+}
+
 // Buffers know the depth limit, so a reservation of both takes fewer nodes than one of the tape for
 // as many bytes: half as many, and half as many as containers may be open.
 #[test]

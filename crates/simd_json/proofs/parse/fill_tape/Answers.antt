@@ -1,12 +1,12 @@
 use Rattle.std.proofs.Common.{◌∙◌, ◌<◌, ap, arith, inr, length, map, min, refl, subst, Err}
 use Rattle.simd_json_parts.specs.Nodes.{item_of}
 use Rattle.std.specs.Result.{result_err}
-use Rattle.simd_json.specs.Parsed.{IsParse, written}
+use Rattle.simd_json.specs.Parsed.{IsParse, nodes_written}
 use Rattle.simd_json.specs.Capacities.{capacity}
 use Rattle.simd_json.specs.Reserved.{bytes_listed}
 use Rattle.simd_json_stages.specs.NodesEnough.{nodes_enough}
-use Rattle.simd_json.proofs.Parses.ParseEnds.{built-some, built-tape, bytes-short, parse-unread, parse-written, right-input, written-all}
-use Rattle.simd_json.proofs.Parses.ParseLaws.{few-positions}
+use Rattle.simd_json.proofs.Parses.ParseEnds.{built-some, built-tape, bytes-short, parse-unread, parse-written, written-all}
+use Rattle.simd_json_check.proofs.Whole.{few-positions, right-input}
 use Rattle.simd_json.proofs.parse.fill_tape.Goals as goal
 
 pub returns-in_err-find_positions-clause-parse : goal.returns-in_err-find_positions-clause-parse
@@ -54,5 +54,5 @@ returns-clause-parse g c =
     (ap (λ r. r.index.listed) c.build.ensures.kept ∙ found.found.listed) in
     subst (λ ns. IsParse c.args.s.now c.args.buffers.now.limit capacity (result_err c.build.result) ns c.build.new.buffers.index.listed)
     (written-all c.build.result nodes c.build.ensures.empty)
-    (subst (λ l. IsParse c.args.s.now l capacity (result_err c.build.result) (written c.build.result nodes)
-        c.build.new.buffers.index.listed) found.limit built)
+    (subst (λ l. IsParse c.args.s.now l capacity (result_err c.build.result) (nodes_written c.build.result nodes)
+    c.build.new.buffers.index.listed) found.limit built)

@@ -1,8 +1,8 @@
-use Rattle.std.proofs.Common.{◌∙◌, ap}
+use Rattle.std.proofs.Common.{◌∙◌, ap, arith}
 use Rattle.std.proofs.lemmas.Result.{IfErr-weaker, on_ok_weaker}
 use Rattle.simd_json_check.specs.Capacities.{capped}
 use Rattle.simd_json_stages.specs.NodesEnough.{nodes_enough}
-use Rattle.simd_json.proofs.Parses.Reservations.{lack, reserved, room}
+use Rattle.simd_json.proofs.Parses.Reservations.{enough-nodes, lack, reserved, room, room-same}
 use Rattle.simd_json.proofs.parse.reserve.Goals as goal
 
 pub returns-clause-capacity : goal.returns-clause-capacity
@@ -18,6 +18,17 @@ returns-clause-capacity g c =
 pub returns-clause-reserved : goal.returns-clause-reserved
 returns-clause-reserved g c =
     on_ok_weaker c.reserve-2.result (reserved c.args.input_len c.reserve.new.self c.reserve-2.new.self) (returns-clause-capacity g c)
+
+pub returns-clause-enough : goal.returns-clause-enough
+returns-clause-enough g c enough =
+    let len = c.args.input_len in
+    let buffers = c.args.buffers.now in
+    let is =
+    c.nodes_enough.ensures.enough ∙ ap (λ n. nodes_enough n c.buffers.inside.max_depth) c.min-positions.ensures
+    ∙ ap (nodes_enough (capped len)) (ap (λ r. r.limit) c.buffers.view_is ∙ c.in_ok-reserve.ensures.same.2) in (
+      c.in_ok-reserve.ensures.exact ∙ room-same (capped len) buffers (omega (arith, enough)),
+      c.reserve-2.ensures.enough (enough-nodes len c.nodes_enough.result buffers c.args.tape.now is enough),
+    )
 
 pub returns-clause-fault : goal.returns-clause-fault
 returns-clause-fault g c =

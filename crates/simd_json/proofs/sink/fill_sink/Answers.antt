@@ -1,8 +1,9 @@
 use Rattle.std.proofs.Common.{◌∙◌, ap, arith, refl, subst}
 use Rattle.std.specs.Result.{result_err}
+use Rattle.simd_json_check.proofs.Whole.{nodes-within}
 use Rattle.simd_json.specs.Capacities.{HoldsScan, capacity}
-use Rattle.simd_json.specs.Parsed.{IsParse, written}
-use Rattle.simd_json.proofs.Parses.ParseEnds.{nodes-within, parse-unread, parse-written, unwritten}
+use Rattle.simd_json.specs.Parsed.{IsParse, nodes_written}
+use Rattle.simd_json.proofs.Parses.ParseEnds.{parse-unread, parse-written, unwritten}
 use Rattle.simd_json.proofs.sink.fill_sink.Goals as goal
 
 pub returns-in_err-find_positions-clause-parse : goal.returns-in_err-find_positions-clause-parse
@@ -11,7 +12,7 @@ returns-in_err-find_positions-clause-parse g c =
     let err = c.from_residual.ensures.1 in
     let held = g.S.NodeSink.held_nodes c.args.sink.now in
     let buffers = c.args.buffers.now in
-    subst (λ b. IsParse b buffers.limit (capacity buffers) (result_err r) (written r held) c.find_positions.new.self.index.listed)
+    subst (λ b. IsParse b buffers.limit (capacity buffers) (result_err r) (nodes_written r held) c.find_positions.new.self.index.listed)
     c.requires.input
     (parse-unread r c.args.s.now buffers.limit (capacity buffers) (capacity buffers) _ _ _ err (unwritten r _ held err)
     c.in_err-find_positions.ensures.empty (omega arith) c.in_err-find_positions.ensures.fault)
@@ -20,8 +21,19 @@ pub build_tape-requires : goal.build_tape-requires
 build_tape-requires g c κs =
     let b = g.K.Original.bytes in
     let buffers = c.find_positions.new.self in
-    let scan = subst (λ b. HoldsScan b buffers) c.requires.input c.in_ok-find_positions.ensures.found in
-    ((refl, tt), (c.requires.input, (scan, (nodes-within b buffers.limit _ scan.whole c.requires.room, c.requires.empty))))
+    let scan = subst (λ b. HoldsScan b buffers) c.requires.input c.in_ok-find_positions.ensures.found in (
+      (refl, tt),
+      (
+        c.requires.input,
+        (
+          scan,
+          (
+            omega (arith, nodes-within b _ buffers.limit scan.whole refl, c.requires.room),
+            c.requires.empty,
+          ),
+        ),
+      ),
+    )
 
 pub returns-clause-parse : goal.returns-clause-parse
 returns-clause-parse g c =
@@ -30,7 +42,7 @@ returns-clause-parse g c =
     let r = c.build_tape.result in
     let held = g.S.NodeSink.held_nodes c.build_tape.new.sink in
     let scan = subst (λ b. HoldsScan b buffers) c.requires.input c.in_ok-find_positions.ensures.found in
-    subst (λ limit. IsParse b limit (capacity c.args.buffers.now) (result_err r) (written r held) c.build_tape.new.self.index.listed)
+    subst (λ limit. IsParse b limit (capacity c.args.buffers.now) (result_err r) (nodes_written r held) c.build_tape.new.self.index.listed)
     c.in_ok-find_positions.ensures.limit
     (parse-written r b buffers.limit _ held _ scan.whole c.build_tape.ensures.built c.build_tape.ensures.few
     c.build_tape.ensures.rejected (ap (λ r. r.index.listed) c.build_tape.ensures.same ∙ scan.listed))

@@ -20,7 +20,7 @@ impl<'tape, 'input> Row<'tape, 'input> {
     ghost use Rattle.std.specs.Prelude.{◌≡◌, ◌≢◌, ◌<◌, ◌^◌, length};
     ghost use Rattle.std.specs.Prelude.{MatchOption};
     ghost use Rattle.simd_json.specs.Descending.{in_row, entered};
-    ghost use Rattle.simd_json.specs.Documents.{others};
+    ghost use Rattle.simd_json.specs.Documents.{other_elements};
     ghost use Rattle.simd_json.specs.Viewed.{doc};
     ghost use Rattle.simd_json_parts.specs.Document.{no_elements, element};
     ghost use Rattle.simd_json_parts.specs.Listing.{listing};
@@ -49,7 +49,7 @@ impl<'tape, 'input> Row<'tape, 'input> {
 
     // All but the first document.
     fn without_first(self) -> Row<'tape, 'input>
-        ensures { in_row result ≡ others 1 (in_row self.entry) }
+        ensures { in_row result ≡ other_elements 1 (in_row self.entry) }
     {
         match self.split_first() {
             Some((_, others)) => others,
@@ -133,7 +133,7 @@ impl<const DEPTH: usize> Levels<DEPTH> {
     ghost use Rattle.std.specs.Prelude.{◌≡◌, ◌∷◌, ◌++◌, cond};
     ghost use Rattle.simd_json.specs.Beneath.{beneath};
     ghost use Rattle.simd_json.specs.Descending.{left_open, left_begun, entered};
-    ghost use Rattle.simd_json.specs.Documents.{others};
+    ghost use Rattle.simd_json.specs.Documents.{other_elements};
     ghost use Rattle.simd_json.specs.Viewed.{doc};
     ghost use Rattle.simd_json_parts.specs.Document.{Elements, element};
 
@@ -141,7 +141,7 @@ impl<const DEPTH: usize> Levels<DEPTH> {
     // is left. Returns whether the member begins with a key.
     fn begin_member(&mut self) -> bool
         ensures { (ds : Elements)
-            → left_open self.old ds ≡ left_begun self.new (cond result (others 1 ds) ds) }
+            → left_open self.old ds ≡ left_begun self.new (cond result (other_elements 1 ds) ds) }
     {
         self.innermost = Level::first_unfinished(&self.all, self.innermost);
         if self.innermost == DEPTH {

@@ -1,6 +1,6 @@
 use Rattle.std.proofs.Common.{◌∙◌, ap, arith, inr, length}
-use Rattle.simd_json.proofs.Parses.ParseEnds.{right-input, short-stack}
-use Rattle.simd_json.proofs.Parses.ParseLaws.{few-positions}
+use Rattle.simd_json_check.proofs.Whole.{few-positions, right-input}
+use Rattle.simd_json.proofs.Parses.ParseEnds.{short-stack}
 use Rattle.simd_json.proofs.buffers.Buffers.find_positions.Goals as goal
 
 pub returns-clause-fault : goal.returns-clause-fault

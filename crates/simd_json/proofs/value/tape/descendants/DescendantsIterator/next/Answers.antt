@@ -1,6 +1,6 @@
 use Rattle.std.proofs.Common.{◌≡◌, ◌∙◌, ap, sym, Bool, cond, drop}
 use Rattle.simd_json.specs.Descending.{in_row, left_open, left_in}
-use Rattle.simd_json.specs.Documents.{others}
+use Rattle.simd_json.specs.Documents.{other_elements}
 use Rattle.simd_json_parts.specs.Document.{Elements}
 use Rattle.simd_json.proofs.Views.Descending.{IsStep, none-left, left-none}
 use Rattle.simd_json.proofs.value.tape.descendants.DescendantsIterator.next.Goals as goal
@@ -11,8 +11,8 @@ returns-in_default-clause-steps g c =
     let old = c.args.self.now in
     let levels = c.begin_member.new.self in
     let all = in_row old.row in
-    let pick : Bool → Elements = λ b. cond b (others 1 all) all in
-    let row : in_row c.if-begin_member.self ≡ cond c.begin_member.result (others 1 all) all =
+    let pick : Bool → Elements = λ b. cond b (other_elements 1 all) all in
+    let row : in_row c.if-begin_member.self ≡ cond c.begin_member.result (other_elements 1 all) all =
     elim c.if-begin_member.branch [
       | then-begin_member w ↦ ap in_row w.self-is ∙ w.without_first-self.ensures ∙ ap pick (sym w.if-begin_member.true)
       | else-begin_member w ↦ ap in_row w.self-is ∙ ap pick (sym w.if-begin_member.false)
