@@ -218,8 +218,8 @@ typedef struct {
     uint8_t is_open;
 } simd_json_parser;
 
-/* Opens a parser for inputs with at most max_depth open containers. One that is open is closed first. OUT_OF_MEMORY leaves
- * it closed; there is no other error. */
+/* Opens a parser for inputs with at most max_depth open containers. One that is open is closed first. OUT_OF_MEMORY, where its
+ * one allocation fails, leaves it closed; there is no other error. */
 int32_t simd_json_open(simd_json_parser *parser, size_t max_depth);
 
 /* As simd_json_check, with what the parser keeps, which stays open after each status. OUT_OF_MEMORY: only where an allocation
@@ -279,7 +279,8 @@ typedef struct {
 } simd_json_found;
 
 /* Keeps a copy of the input with its structural indexes, in place of the input that was kept before. Writes *place. The errors
- * are those of simd_json_index; after one, no input is kept. Other calls but simd_json_close leave it kept. */
+ * are those of simd_json_index, OUT_OF_MEMORY only where what the parser keeps is too small; after one, no input is kept. Other
+ * calls but simd_json_close leave it kept. */
 int32_t simd_json_parser_index(simd_json_parser *parser, const void *input, size_t len, simd_json_place *place);
 
 /* The value that a pointer names in the input that is kept, as it is written: of a string with quotes and escapes, of an array or
@@ -287,7 +288,8 @@ int32_t simd_json_parser_index(simd_json_parser *parser, const void *input, size
  *
  * OK: *found is its kind and its length, and it is at the front of out; nothing behind it is written.
  * TOO_LITTLE_ROOM: *found is the same, and out is unchanged.
- * NO_VALUE: there is none, the pointer is not UTF-8, or no input is kept; *found and out are unchanged, as by PARSER_CLOSED. */
+ * NO_VALUE: there is none, the pointer is not UTF-8, or no input is kept; *found and out are unchanged, as by PARSER_CLOSED,
+ * which comes before. */
 int32_t simd_json_parser_find(simd_json_parser *parser, const void *pointer, size_t pointer_len, simd_json_found *found, void *out,
                               size_t out_len);
 

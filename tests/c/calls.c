@@ -226,6 +226,61 @@ static void siblings(void) {
     simd_json_close(&parser);
 }
 
+// Of equal values the one that the pointer names; by hand.
+static void equals_told_apart(void) {
+    static const char document[] = "[1,1,[1,1],{\"a\":1,\"a\":1,\"b\":1}]";
+    static const struct {
+        const char *pointer;
+        size_t from, at;
+    } rows[] = {{"", 0, 0}, {"/0", 0, 1}, {"/1", 0, 2}, {"/2", 0, 3}, {"/2/0", 0, 4}, {"/2/1", 0, 5}, {"/3", 0, 6}, {"/3/a", 0, 8},
+                {"/3/b", 0, 12}, {"", 2, 2}, {"/1", 3, 5}, {"/a", 6, 8}, {"/b", 6, 12}, {"/2", 3, SIMD_JSON_NO_NODE}};
+    char copy[64];
+    simd_json_document lent;
+    simd_json_place place;
+    simd_json_parser parser = {0};
+    WANT(simd_json_open(&parser, 4) == SIMD_JSON_OK, "opened");
+    WANT(simd_json_parser_parse(&parser, copy, fresh(copy, document), &lent, &place) == SIMD_JSON_OK && lent.nodes_len == 13, document);
+    for (size_t i = 0; i < sizeof rows / sizeof *rows; i++) {
+        const char *pointer = rows[i].pointer;
+        size_t at = simd_json_pointer(lent.nodes, lent.nodes_len, lent.text, lent.text_len, rows[i].from, pointer, strlen(pointer));
+        WANT(at == rows[i].at, pointer);
+    }
+    simd_json_close(&parser);
+}
+
+// The longest reason has 54 bytes: each status, with each byte where an error is, alone and behind others.
+static void reasons_fit(void) {
+    static const char *const before[] = {"", "[", "[1", "{", "{\"a\"", "{\"a\":1", "{\"a\":1,", "\"\\", "[12", "\"\\u"};
+    char input[16], words[SIMD_JSON_REASON_MAX];
+    size_t longest = 0;
+    for (int status = 0; status < 23; status++)
+        for (int c = 0; c < 256; c++)
+            for (size_t i = 0; i < 4 * sizeof before / sizeof *before; i++) {
+                size_t len = fresh(input, before[i / 4]), needed = 77;
+                input[len] = (char)c;
+                const simd_json_place places[] = {
+                    {0, SIMD_JSON_NO_CHARACTER}, {0, (unsigned char)*input}, {len, (uint32_t)c}, {len - (len > 0), (uint32_t)c}};
+                simd_json_position at;
+                WANT(simd_json_location(input, len + 1, status, &places[i % 4], &at, words, sizeof words, &needed) == SIMD_JSON_OK, "fits");
+                WANT(needed <= SIMD_JSON_REASON_MAX, "fits");
+                if (needed > longest) longest = needed;
+            }
+    WANT(longest == 54, "fits");
+}
+
+// For each limit; and a document with two open containers is then one, or too deep.
+static void opened_within_each_limit(void) {
+    static const size_t limits[] = {0, 1, 2, 3, 64, 65, 1024, 1000000, 1000001, UINT32_MAX, SIZE_MAX / 2, SIZE_MAX};
+    simd_json_place place;
+    simd_json_parser parser = {0};
+    for (size_t i = 0; i < sizeof limits / sizeof *limits; i++) {
+        WANT(simd_json_open(&parser, limits[i]) == SIMD_JSON_OK, "opened");
+        int status = limits[i] < 2 ? SIMD_JSON_DEPTH_LIMIT_EXCEEDED : SIMD_JSON_OK;
+        WANT(simd_json_parser_check(&parser, "[[]]", 4, &place) == status, "[[]]");
+    }
+    simd_json_close(&parser);
+}
+
 // A value within a document, by pointers that lead to one and that do not. An error before or behind it is reported, and is
 // before a pointer that names no value, but behind one that is not UTF-8: then the input is not read.
 static void values_printed(void) {
@@ -316,6 +371,10 @@ static void values_found(void) {
         {"[-7, 7, -9223372036854775809, 18446744073709551616]", "/1", "7", SIMD_JSON_U64},
         {"[-7, 7, -9223372036854775809, 18446744073709551616]", "/2", "-9223372036854775809", SIMD_JSON_I128},
         {"[-7, 7, -9223372036854775809, 18446744073709551616]", "/3", "18446744073709551616", SIMD_JSON_U128},
+        {"[\"\\u0041\", \"A\"]", "/0", "\"\\u0041\"", SIMD_JSON_STRING},
+        {"[\"\\u0041\", \"A\"]", "/1", "\"A\"", SIMD_JSON_STRING},
+        {"[[1, 2],[1,2]]", "/0", "[1, 2]", SIMD_JSON_ARRAY},
+        {"[[1, 2],[1,2]]", "/1", "[1,2]", SIMD_JSON_ARRAY},
         {"[7]", "/1", 0, 0},
         {"[7]", "0", 0, 0},
         {"{\"a\":7}", "/\377", 0, 0},
@@ -385,6 +444,9 @@ static void version(void) {
 int main(void) {
     version();
     siblings();
+    equals_told_apart();
+    reasons_fit();
+    opened_within_each_limit();
     doubles();
     grown();
     parser_kept();

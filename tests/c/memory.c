@@ -106,6 +106,20 @@ static int kept(void) {
     return status;
 }
 
+// To open takes one allocation, whatever the limit, and fails where that does.
+static void one_opens(void) {
+    static const size_t limits[] = {0, 1, 1024, 1000001, UINT32_MAX, SIZE_MAX};
+    int before = held;
+    for (size_t i = 0; i < 2 * sizeof limits / sizeof *limits; i++) {
+        allowed = i % 2;
+        int status = simd_json_open(&parser, limits[i / 2]);
+        allowed = -1;
+        WANT(status == (i % 2 ? SIMD_JSON_OK : SIMD_JSON_OUT_OF_MEMORY) && parser.is_open == i % 2 && held == before + parser.is_open);
+        simd_json_close(&parser);
+    }
+    WANT(held == before);
+}
+
 // A call that lacks memory leaves the parser as good as it was; once each has read an input, none allocates more for such.
 static void memory_is_kept(void) {
     int before = held;
@@ -165,5 +179,6 @@ int main(void) {
     each_fails(indexed);
     each_fails(location);
     each_fails(kept);
+    one_opens();
     memory_is_kept();
 }

@@ -4,15 +4,18 @@ use Rattle.std.proofs.Common.{List, [], ◌∷◌, ◌++◌, length, take, drop,
 use Rattle.std.proofs.lemmas.List.{length-append, drop_at, drop_more, get_or-drop}
 use Rattle.std.proofs.lemmas.Option.{slice_get-get_or}
 use Rattle.std.proofs.Math.Seq.{take-append_seam}
+use Rattle.std.proofs.lemmas.Slice.Eq.{bytes_eq-Decides}
 use Rattle.std.proofs.lemmas.Bool.{and_parts, leb-true, ltb-false, ltb-true}
 use Rattle.std.proofs.lemmas.Str.{IsUtf8-from_ascii}
-use Rattle.std.specs.Prelude.{◌==◌, ◌||◌, nat_le, nat_lt, not, slice_get}
+use Rattle.std.specs.Prelude.{◌==◌, ◌||◌, ◌^◌, bytes_eq, nat_le, nat_lt, not, slice_get, unwrap_or, if◌then◌else◌}
+use Rattle.std.specs.Prelude.{Option, option_and_then, option_map}
 use Rattle.std.specs.Char.{is_ascii_digit}
 use Rattle.std.specs.List.{list_all}
 use Rattle.std.specs.Str.{IsAscii, IsUtf8}
 use Rattle.std.specs.Result.{result_ok}
 use Rattle.simd_json_parts.specs.Document.{Document, null, boolean, integer, decimal, string, array, object, Elements}
 use Rattle.simd_json_parts.specs.Document.{no_elements, element, elements, Members, no_members, member, members}
+use Rattle.simd_json_parts.specs.Followed.{fits_64}
 use Rattle.simd_json_parts.specs.Integers.{integer_node}
 use Rattle.simd_json_parts.specs.Listing.{listing, elements_listing, members_listing}
 use Rattle.simd_json_parts.specs.Nodes.{Item, static_item, decimal_item, string_item, array_item, object_item}
@@ -20,7 +23,7 @@ use Rattle.simd_json_parts.specs.Pointed.{is_array_index, named, unescaped}
 use Rattle.simd_json_parts.specs.declared.node.StaticNode.{StaticNode}
 use Rattle.simd_json_parts.specs.declared.node.StaticNode.TheVariants as fixed
 use Rattle.simd_json_c.specs.Nodes.{node_of, nodes_from, span, static_node, text_of, texts}
-use Rattle.simd_json_c.specs.Placed.{AreAt, IsValueAt}
+use Rattle.simd_json_c.specs.Placed.{AreAt, IsValueAt, before_element, before_followed, before_member, before_named}
 use Rattle.simd_json_c.specs.declared.nodes.Node.{Node}
 use Rattle.simd_json_parts.proofs.Pointers.Pointed.{found, member-here, member-later, member-none}
 
@@ -228,61 +231,104 @@ member-after nodes text i k d ms a =
     back-at nodes text (i + 1) (listing d) (members_listing ms)
     (back-at nodes text i (string_item k ∷ []) (listing d ++ members_listing ms) a)
 
--- what is left of the elements after some of them
-pub record ElementsLeft (nodes : List Node) (text : List ℕ) (ds : Elements) (passed at : ℕ) : Type 0 where
+-- what is left of the elements after some of them, of which the first lies at an index
+pub record ElementsLeft (nodes : List Node) (text : List ℕ) (ds : Elements) (first passed at : ℕ) : Type 0 where
   pub left : Elements
   pub placed : AreAt nodes text at (elements_listing left)
   pub are : elements left ≡ drop passed (elements ds)
+  pub before : (k : ℕ) → at + before_element left k ≡ first + before_element ds (passed + k)
 
 pub elements-all : (nodes : List Node) (text : List ℕ) (ds : Elements) (at : ℕ) → AreAt nodes text at (elements_listing ds)
-    → ElementsLeft nodes text ds 0 at
-elements-all nodes text ds at a = record { left = ds; placed = a; are = refl }
+    → ElementsLeft nodes text ds at 0 at
+elements-all nodes text ds at a = record {
+  left = ds;
+  placed = a;
+  are = refl;
+  before = λ k. let same : k ≡ 0 + k = omega arith in ap (λ n. at + before_element ds n) same;
+}
 
 -- the next of them
-pub record NextElement (nodes : List Node) (text : List ℕ) (ds : Elements) (passed at : ℕ) : Type 0 where
+pub record NextElement (nodes : List Node) (text : List ℕ) (ds : Elements) (first passed at : ℕ) : Type 0 where
   pub value : Document
   pub placed : IsValueAt nodes text at value
   pub is : slice_get (elements ds) passed ≡ Some value
-  pub after : ElementsLeft nodes text ds (passed + 1) (at + length (listing value))
+  pub here : at ≡ first + before_element ds passed
+  pub after : ElementsLeft nodes text ds first (passed + 1) (at + length (listing value))
 
-next-by : (nodes : List Node) (text : List ℕ) (ds : Elements) (passed at : ℕ) (left : Elements)
+next-by : (nodes : List Node) (text : List ℕ) (ds : Elements) (first passed at : ℕ) (left : Elements)
     → AreAt nodes text at (elements_listing left) → elements left ≡ drop passed (elements ds)
-    → passed < length (elements ds) → NextElement nodes text ds passed at
-next-by nodes text ds passed at no_elements a are less =
+    → ((k : ℕ) → at + before_element left k ≡ first + before_element ds (passed + k))
+    → passed < length (elements ds) → NextElement nodes text ds first passed at
+next-by nodes text ds first passed at no_elements a are before less =
     absurd (omega (arith, less, length-drop passed (elements ds), ap length are))
-next-by nodes text ds passed at (element d es) a are less =
+next-by nodes text ds first passed at (element d es) a are before less =
     let split : d ∷ elements es ≡ get_or (elements ds) passed d ∷ drop (passed + 1) (elements ds) =
     are ∙ drop_more (elements ds) passed d less in
     let here : get_or (elements ds) passed d ≡ d = cc in
-    let later : elements es ≡ drop (passed + 1) (elements ds) = cc in record {
+    let later : elements es ≡ drop (passed + 1) (elements ds) = cc in
+    let begin : at ≡ first + before_element ds (passed + 0) = omega (arith, before 0) in
+    let none : passed + 0 ≡ passed = omega arith in record {
       value = d;
       placed = front-at nodes text at (listing d) (elements_listing es) a;
       is = slice_get-get_or (elements ds) passed d less ∙ ap Some here;
-      after = record { left = es; placed = back-at nodes text at (listing d) (elements_listing es) a; are = later };
+      here = begin ∙ ap (λ n. first + before_element ds n) none;
+      after = record {
+        left = es;
+        placed = back-at nodes text at (listing d) (elements_listing es) a;
+        are = later;
+        before = λ k.
+            (let moved : at + length (listing d) + before_element es k ≡ first + before_element ds (passed + suc k) =
+            omega (arith, before (suc k)) in
+            let along : passed + suc k ≡ passed + 1 + k = omega arith in
+            moved ∙ ap (λ n. first + before_element ds n) along);
+      };
     }
 
-pub next-element : (nodes : List Node) (text : List ℕ) (ds : Elements) (passed at : ℕ) → ElementsLeft nodes text ds passed at
-    → passed < length (elements ds) → NextElement nodes text ds passed at
-next-element nodes text ds passed at l less = next-by nodes text ds passed at l.left l.placed l.are less
+pub next-element : (nodes : List Node) (text : List ℕ) (ds : Elements) (first passed at : ℕ)
+    → ElementsLeft nodes text ds first passed at → passed < length (elements ds) → NextElement nodes text ds first passed at
+next-element nodes text ds first passed at l less = next-by nodes text ds first passed at l.left l.placed l.are l.before less
+
+fits-is : (b : Bool) (i j : ℕ) → (if b then Some i else None) ≡ Some j → i ≡ j
+fits-is true i j is = cc
+fits-is false i j is = absurd (cc)
+
+-- the index that a token is, where it fits 64 bits
+pub index-is : (i : Option ℕ) (j : ℕ) → option_and_then fits_64 i ≡ Some j → unwrap_or i 0 ≡ j
+index-is None j is = absurd (cc)
+index-is (Some i) j is = fits-is (nat_lt i (2 ^ 64)) i j is
 
 empty : {A : Type 0} (xs : List A) → length xs ≡ 0 → xs ≡ []
 empty [] none = refl
 empty (x ∷ xs) none = absurd (omega (arith, none))
 
--- what is left of the pairs, of which those before have other keys than the token
-pub record MembersLeft (nodes : List Node) (text t : List ℕ) (ms : Members) (len passed at : ℕ) : Type 0 where
+-- the bytes of a key, and others
+before-here : (k : List ℕ) (d : Document) (es : Members) → before_member (member k d es) k ≡ 1
+before-here k d es = ap (λ b. if b then 1 else suc (length (listing d) + before_member es k)) ((bytes_eq-Decides k k).1 refl)
+
+before-by : (b : Bool) (k key : List ℕ) (n : ℕ) → (b ≡ true → k ≡ key) → (k ≡ key → ⊥) → (if b then 1 else n) ≡ n
+before-by true k key n same other = absurd (other (same refl))
+before-by false k key n same other = refl
+
+before-later : (k key : List ℕ) (d : Document) (es : Members) → (k ≡ key → ⊥)
+    → before_member (member k d es) key ≡ suc (length (listing d) + before_member es key)
+before-later k key d es other = before-by (bytes_eq k key) k key _ (bytes_eq-Decides k key).0 other
+
+-- what is left of the pairs, of which those before have other keys than the token, and the first lies at an index
+pub record MembersLeft (nodes : List Node) (text t : List ℕ) (ms : Members) (len first passed at : ℕ) : Type 0 where
   pub left : Members
   pub placed : AreAt nodes text at (members_listing left)
   pub count : passed + length (members left) ≡ len
   pub same : found t left ≡ found t ms
+  pub before : (key : List ℕ) → unescaped t ≡ Some key → at + before_member left key ≡ first + before_member ms key
 
 pub members-all : (nodes : List Node) (text t : List ℕ) (ms : Members) (len at : ℕ) → AreAt nodes text at (members_listing ms)
-    → len ≡ length (members ms) → MembersLeft nodes text t ms len 0 at
-members-all nodes text t ms len at a is = record { left = ms; placed = a; count = omega (arith, is); same = refl }
+    → len ≡ length (members ms) → MembersLeft nodes text t ms len at 0 at
+members-all nodes text t ms len at a is =
+    record { left = ms; placed = a; count = omega (arith, is); same = refl; before = λ key named. refl }
 
-pub members-none : (nodes : List Node) (text t : List ℕ) (ms : Members) (len passed at : ℕ) → MembersLeft nodes text t ms len passed at
-    → len ≤ passed → found t ms ≡ None
-members-none nodes text t ms len passed at l past =
+pub members-none : (nodes : List Node) (text t : List ℕ) (ms : Members) (len first passed at : ℕ)
+    → MembersLeft nodes text t ms len first passed at → len ≤ passed → found t ms ≡ None
+members-none nodes text t ms len first passed at l past =
     sym l.same ∙ member-none (unescaped t) l.left (empty (members l.left) (omega (arith, l.count, past)))
 
 -- any node
@@ -290,7 +336,7 @@ abbrev pub some_node : Node
 some_node = span 0 0 0
 
 -- the next pair, whose key has this node
-pub record NextMember (nodes : List Node) (text t : List ℕ) (ms : Members) (len passed at : ℕ) (node : Node) : Type 0 where
+pub record NextMember (nodes : List Node) (text t : List ℕ) (ms : Members) (len first passed at : ℕ) (node : Node) : Type 0 where
   pub key : List ℕ
   pub value : Document
   pub key_len : node.len ≡ length key
@@ -298,18 +344,20 @@ pub record NextMember (nodes : List Node) (text t : List ℕ) (ms : Members) (le
   pub key_is : take node.len (drop node.value text) ≡ key
   pub placed : IsValueAt nodes text (at + 1) value
   pub here : unescaped t ≡ Some key → found t ms ≡ Some value
-  pub later : (unescaped t ≡ Some key → ⊥) → MembersLeft nodes text t ms len (passed + 1) (at + 1 + length (listing value))
+  pub before : unescaped t ≡ Some key → at + 1 ≡ first + before_member ms (unwrap_or (unescaped t) [])
+  pub later : (unescaped t ≡ Some key → ⊥) → MembersLeft nodes text t ms len first (passed + 1) (at + 1 + length (listing value))
 
-next-member-by : (nodes : List Node) (text t : List ℕ) (ms : Members) (len passed at : ℕ) (n : Node) (left : Members)
-    → AreAt nodes text at (members_listing left) → passed + length (members left) ≡ len → found t left ≡ found t ms → passed < len
-    → (at < length nodes) × NextMember nodes text t ms len passed at (get_or nodes at n)
-next-member-by nodes text t ms len passed at n no_members a count same less = absurd (omega (arith, count, less))
-next-member-by nodes text t ms len passed at n (member k d es) a count same less =
+next-member-by : (nodes : List Node) (text t : List ℕ) (ms : Members) (len first passed at : ℕ) (n : Node) (left : Members)
+    → AreAt nodes text at (members_listing left) → passed + length (members left) ≡ len → found t left ≡ found t ms
+    → ((key : List ℕ) → unescaped t ≡ Some key → at + before_member left key ≡ first + before_member ms key) → passed < len
+    → (at < length nodes) × NextMember nodes text t ms len first passed at (get_or nodes at n)
+next-member-by nodes text t ms len first passed at n no_members a count same before less = absurd (omega (arith, count, less))
+next-member-by nodes text t ms len first passed at n (member k d es) a count same before less =
     let beneath = listing d ++ members_listing es in
     let key = key-at nodes text at k beneath a in
     let placed = member-value nodes text at k d es a in
     let after = member-after nodes text at k d es a in
-    let next : NextMember nodes text t ms len passed at (node_of a.start (string_item k)) =
+    let next : NextMember nodes text t ms len first passed at (node_of a.start (string_item k)) =
     record {
       key = k;
       value = d;
@@ -318,22 +366,33 @@ next-member-by nodes text t ms len passed at n (member k d es) a count same less
       key_is = key.1;
       placed = placed;
       here = λ is. sym same ∙ member-here (unescaped t) k d (member k d es) es refl is;
+      before =
+          λ is. ap (λ n. at + n) (sym (before-here k d es)) ∙ before k is
+          ∙ ap (λ o. first + before_member ms (unwrap_or o [])) (sym is);
       later = λ other. record {
         left = es;
         placed = after;
         count = omega (arith, count);
         same = sym (member-later (unescaped t) k d (member k d es) es refl other) ∙ same;
+        before = λ sought is.
+            omega (arith, before-later k sought d es (λ both. other (is ∙ ap Some (sym both)))) ∙ before sought is;
       };
     } in (
       omega (arith, within-at nodes text at (string_item k) beneath a),
-      subst (NextMember nodes text t ms len passed at) (sym (node-at nodes text at (string_item k) beneath n a)) next,
+      subst (NextMember nodes text t ms len first passed at) (sym (node-at nodes text at (string_item k) beneath n a)) next,
     )
 
-pub next-member : (nodes : List Node) (text t : List ℕ) (ms : Members) (len passed at : ℕ) (n : Node)
-    → MembersLeft nodes text t ms len passed at → passed < len
-    → (at < length nodes) × NextMember nodes text t ms len passed at (get_or nodes at n)
-next-member nodes text t ms len passed at n l less =
-    next-member-by nodes text t ms len passed at n l.left l.placed l.count l.same less
+pub next-member : (nodes : List Node) (text t : List ℕ) (ms : Members) (len first passed at : ℕ) (n : Node)
+    → MembersLeft nodes text t ms len first passed at → passed < len
+    → (at < length nodes) × NextMember nodes text t ms len first passed at (get_or nodes at n)
+next-member nodes text t ms len first passed at n l less =
+    next-member-by nodes text t ms len first passed at n l.left l.placed l.count l.same l.before less
+
+-- ---- along a pointer
+
+pub before-next : (t : List ℕ) (ts : List (List ℕ)) (d e : Document) → result_ok (named t d) ≡ Some e
+    → before_followed (t ∷ ts) d ≡ before_named t d + before_followed ts e
+before-next t ts d e is = ap (λ o. before_named t d + unwrap_or (option_map (before_followed ts) o) 0) is
 
 -- ---- the digits of an index are text
 

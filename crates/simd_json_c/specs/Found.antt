@@ -1,20 +1,24 @@
 -- Values that are found by pointers in an input that a parser keeps, with its structural indexes.
-use Rattle.std.specs.Prelude.{◌≡◌, ◌⊎◌, ℕ, ℤ, List, true, false, Option, Some, None, MatchOption, Ok, IsUtf8}
+use Rattle.std.specs.Prelude.{◌≡◌, ℕ, ℤ, List, true, false, Option, Some, None, MatchOption, Ok, IsUtf8}
 use Rattle.std.specs.Result.{result_ok}
 use Rattle.simd_json_parts.specs.Answer.{answer}
 use Rattle.simd_json_parts.specs.Document.{Document}
 use Rattle.simd_json_parts.specs.InputFaults.{input_fault}
 use Rattle.simd_json_parts.specs.Pointed.{pointed}
+use Rattle.simd_json_parts.specs.Positions.{positions}
 use Rattle.simd_json_parts.specs.Views.{value_type}
 use Rattle.simd_json_parts.specs.declared.error.Error.{Error}
 use Rattle.simd_json_parts.specs.declared.node.ValueType.{ValueType}
 use Rattle.simd_json_parts.specs.declared.node.ValueType.TheVariants as kinds
 use Rattle.simd_json_ondemand.specs.Docs.{doc, kind}
+use Rattle.simd_json_ondemand.specs.Reached.{pointed_at}
+use Rattle.simd_json_ondemand.specs.Sites.{Site, site}
+use Rattle.simd_json_ondemand.specs.Walks.{found as reached}
 use Rattle.simd_json_ondemand.specs.Written.{written}
 use Rattle.simd_json_ondemand.specs.declared.value.Value.{Value}
 use Rattle.simd_json_c.specs.Calls.{IsTextPut}
 use Rattle.simd_json_c.specs.Indexed.{IsUnscanned}
-use Rattle.simd_json_c.specs.Kept.{KeepsRoom}
+use Rattle.simd_json_c.specs.Kept.{KeepsRoom, KeepsSource, source_capacity}
 use Rattle.simd_json_c.specs.Statuses.{error_place, error_status, no_value, parser_closed}
 use Rattle.simd_json_c.specs.declared.find.Found.{Found}
 use Rattle.simd_json_c.specs.declared.status.ErrorPlace.{ErrorPlace}
@@ -39,29 +43,40 @@ abbrev pub IsNotFound : ℤ → Found → Found → List ℕ → List ℕ → Ty
 IsNotFound status old_found found old new = (status ≡ no_value) × (found ≡ old_found) × (new ≡ old)
 
 -- the value's kind, and its bytes as they are written, which are put or have too little room
-abbrev pub IsValuePut : Value → ValueType → ℤ → Found → List ℕ → List ℕ → Type 0
-IsValuePut v k status found old new =
-    (bytes : List ℕ) × (written v ≡ Some bytes) × (found.kind ≡ kind_number k) × IsTextPut bytes status found.len old new
+abbrev pub IsTextOf : ValueType → List ℕ → ℤ → Found → List ℕ → List ℕ → Type 0
+IsTextOf k bytes status found old new = (found.kind ≡ kind_number k) × IsTextPut bytes status found.len old new
 
--- whatever the bytes are: of a value, or of none
-abbrev pub IsSomePut : ℤ → Found → Found → List ℕ → List ℕ → Type 0
-IsSomePut status old_found found old new =
-    IsNotFound status old_found found old new
-    ⊎ ((v : Value) × (k : ValueType) × (kind v ≡ Some k) × IsValuePut v k status found old new)
+-- of a place that has both
+abbrev pub IsValuePut : Value → ℤ → Found → Found → List ℕ → List ℕ → Type 0
+IsValuePut v status old_found found old new =
+    MatchOption (kind v) (IsNotFound status old_found found old new)
+    (λ k. MatchOption (written v) (IsNotFound status old_found found old new) (λ bytes. IsTextOf k bytes status found old new))
 
--- where b is a document, of the value that the pointer names in it
+-- where the pointer leads in b, whatever the bytes are
+abbrev pub site_named : List ℕ → List ℕ → Option Site
+site_named pointer b = reached (pointed_at pointer (b, positions b))
+
+-- of the value at that place of b
+abbrev pub IsSitePut : List ℕ → List ℕ → ℤ → Found → Found → List ℕ → List ℕ → Type 0
+IsSitePut b pointer status old_found found old new =
+    MatchOption (site_named pointer b) (IsNotFound status old_found found old new)
+    (λ s. (v : Value) × (site v ≡ s) × IsValuePut v status old_found found old new)
+
+-- where b is a document, this is the value that the pointer names in it
 abbrev pub IsNamedPut : List ℕ → List ℕ → ℤ → Found → Found → List ℕ → List ℕ → Type 0
 IsNamedPut b pointer status old_found found old new = (d : Document) (limit : ℕ) → answer b limit ≡ Ok d
     → MatchOption (result_ok (pointed pointer d)) (IsNotFound status old_found found old new)
-    (λ e. (v : Value) × (doc v ≡ Some e) × IsValuePut v (value_type e) status found old new)
+    (λ e. (v : Value) × (site_named pointer b ≡ Some (site v)) × (doc v ≡ Some e)
+    × ((bytes : List ℕ) × (written v ≡ Some bytes) × IsTextOf (value_type e) bytes status found old new))
 
 -- in the input that is kept, or in none
 abbrev pub IsFoundIn : Source → List ℕ → ℤ → Found → Found → List ℕ → List ℕ → Type 0
 IsFoundIn source pointer status old_found found old new =
     (source.is_scanned ≡ false → IsNotFound status old_found found old new)
-    × (source.is_scanned ≡ true → IsUtf8 pointer → IsNamedPut source.bytes.items pointer status old_found found old new)
     × ((IsUtf8 pointer → ⊥) → IsNotFound status old_found found old new)
-    × IsSomePut status old_found found old new
+    × (source.is_scanned ≡ true → IsUtf8 pointer
+    → IsSitePut source.bytes.items pointer status old_found found old new
+    × IsNamedPut source.bytes.items pointer status old_found found old new)
 
 -- a call that finds a value with a parser, which stays as it is
 abbrev pub IsFoundWith : Option Lists → Option Lists → List ℕ → ℤ → Found → Found → List ℕ → List ℕ → Type 0
@@ -80,6 +95,7 @@ abbrev pub IsInputWith : Option Lists → Option Lists → List ℕ → ℤ → 
 IsInputWith old new b status place =
     MatchOption old
     ((new ≡ None) × (status ≡ parser_closed) × (place ≡ error_place None))
-    (λ was. (lists : Lists) × (new ≡ Some lists) × KeepsRoom was lists
+    (λ was. (lists : Lists) × (new ≡ Some lists) × KeepsRoom was lists × KeepsSource was.source lists.source
     × ((fault : Option Error) × (status ≡ error_status fault) × (place ≡ error_place fault)
-    × MatchOption fault (KeepsInput b lists) (λ e. IsUnscanned b e × (lists.source.is_scanned ≡ false))))
+    × MatchOption fault (KeepsInput b lists)
+    (λ e. IsUnscanned (source_capacity was.source) b e × (lists.source.is_scanned ≡ false))))

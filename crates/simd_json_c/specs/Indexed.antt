@@ -14,13 +14,14 @@ AreIndexesPut is status used old new =
     (used ≡ length is)
     × (((status ≡ pos 0) × IsAtFront is old new) ⊎ ((status ≡ too_little_room) × (new ≡ old) × (length old < length is)))
 
--- the error of the whole input, or an allocation failed
-abbrev pub IsUnscanned : List ℕ → Error → Type 0
-IsUnscanned b e = (input_fault b ≡ Some e) ⊎ LacksMemory b e
+-- the error of the whole input, or an allocation failed, where the lists had capacity for fewer bytes
+abbrev pub IsUnscanned : ℕ → List ℕ → Error → Type 0
+IsUnscanned capacity b e = (input_fault b ≡ Some e) ⊎ (LacksMemory b e × (capacity < length b))
 
+-- by a call with lists of its own
 abbrev pub IsIndexed : List ℕ → ℤ → ErrorPlace → ℕ → ℕ → List ℕ → List ℕ → Type 0
 IsIndexed b status place old_used used old new =
     (fault : Option Error) × (place ≡ error_place fault)
     × MatchOption fault
     ((input_fault b ≡ None) × AreIndexesPut (positions b) status used old new)
-    (λ e. (status ≡ error_status fault) × (used ≡ old_used) × (new ≡ old) × IsUnscanned b e)
+    (λ e. (status ≡ error_status fault) × (used ≡ old_used) × (new ≡ old) × IsUnscanned 0 b e)

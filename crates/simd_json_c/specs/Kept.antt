@@ -1,14 +1,16 @@
 -- What a parser keeps from one call to the next. A closed one keeps no lists.
-use Rattle.std.specs.Prelude.{◌≡◌, ◌≤◌, ◌⊎◌, ℕ, ℤ, pos, List, length, false, Option, Some, None, MatchOption, ⊤}
+use Rattle.std.specs.Prelude.{◌≡◌, ◌≤◌, ◌⊎◌, ℕ, ℤ, pos, List, length, min, false, Option, Some, None, MatchOption, ⊤}
 use Rattle.std.specs.Vec.{vec_capacity}
 use Rattle.simd_json.specs.Capacities.{KeepsCapacities, capacity, new_buffers}
 use Rattle.simd_json.specs.Parsed.{IsParseResult}
+use Rattle.simd_json_check.specs.Capacities as lists
 use Rattle.simd_json_check.specs.Capacities.{check_capacity}
 use Rattle.simd_json_parts.specs.Nodes.{Item}
 use Rattle.simd_json_parts.specs.declared.error.Error.{Error}
 use Rattle.simd_json_c.specs.Statuses.{out_of_memory, parser_closed, error_place}
 use Rattle.simd_json_c.specs.Calls.{IsChecked}
 use Rattle.simd_json_c.specs.declared.lists.Lists.{Lists}
+use Rattle.simd_json_c.specs.declared.source.Source.{Source}
 use Rattle.simd_json_c.specs.declared.status.ErrorPlace.{ErrorPlace}
 
 -- within the same limit, and no capacity is given up
@@ -17,6 +19,14 @@ KeepsRoom old new =
     (new.buffers.limit ≡ old.buffers.limit) × KeepsCapacities old.buffers new.buffers × (old.tape.capacity ≤ new.tape.capacity)
     × (vec_capacity old.printed ≤ vec_capacity new.printed) × (vec_capacity old.nodes ≤ vec_capacity new.nodes)
     × (length old.text.items ≤ length new.text.items)
+
+-- nor of the lists for an input that is kept
+abbrev pub KeepsSource : Source → Source → Type 0
+KeepsSource old new = lists.IsNoShorter old.index new.index × (vec_capacity old.bytes ≤ vec_capacity new.bytes)
+
+-- for an input of how many bytes these have capacity
+abbrev pub source_capacity : Source → ℕ
+source_capacity s = min (lists.capacity s.index) (vec_capacity s.bytes)
 
 -- and the input that is kept, if one is
 abbrev pub KeepsLists : Lists → Lists → Type 0

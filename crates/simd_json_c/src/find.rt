@@ -1,10 +1,11 @@
 //! Values on demand: a parser keeps an input with its structural indexes, and JSON Pointers find
 //! values there. No node is made, and only what lies on the way is read.
-ghost use Rattle.std.specs.Prelude.{◌≡◌, Some};
+ghost use Rattle.std.specs.Prelude.{◌≡◌, ℕ, List, Some};
 ghost use Rattle.simd_json_ondemand.specs.Docs.{doc};
+ghost use Rattle.simd_json_ondemand.specs.Written.{written};
 ghost use Rattle.simd_json_parts.specs.Document.{Document};
 ghost use Rattle.simd_json_parts.specs.Views.{value_type};
-ghost use Rattle.simd_json_c.specs.Found.{IsFoundIn, IsFoundWith, IsInputWith, IsSomePut};
+ghost use Rattle.simd_json_c.specs.Found.{IsFoundIn, IsFoundWith, IsInputWith, IsTextOf};
 ghost use Rattle.simd_json_c.specs.Found.{IsValuePut, kind_number};
 
 use crate::parser::Parser;
@@ -82,9 +83,10 @@ fn find(source: &Source, pointer: &[u8], found: &mut Found, out: &mut [u8]) -> i
 // Writes the kind of a value, and its bytes as they are written if there is room for them, and
 // returns the status.
 fn put_value(value: Value<'_>, found: &mut Found, out: &mut [u8]) -> i32
+    ensures any { IsValuePut value.entry result found.old found.new out.old out.new }
     ensures document { (e : Document) → doc value.entry ≡ Some e
-        → IsValuePut value.entry (value_type e) result found.new out.old out.new }
-    ensures any { IsSomePut result found.old found.new out.old out.new }
+        → (bytes : List ℕ) × (written value.entry ≡ Some bytes)
+        × IsTextOf (value_type e) bytes result found.new out.old out.new }
 {
     // a law
     kinds_are_those_of_documents();

@@ -6,20 +6,19 @@ ghost use Rattle.simd_json_c.specs.Indexed.{AreIndexesPut, IsIndexed, IsUnscanne
 
 use crate::status::{ErrorPlace, TOO_LITTLE_ROOM, reported};
 use simd_json::Result;
-use simd_json_stages::stage1::{BlockStage1Parse, Stage1Parse};
+use simd_json_check::Index;
 use std::alloc::Global;
 
 // Finds the structural indexes, and copies them if there is room for them.
 fn index(alloc: Global, input: &[u8], indexes: &mut [u32], used: &mut usize) -> Result<i32>
     ensures put { IfOk result (λ status. (input_fault input.now ≡ None)
         × AreIndexesPut (positions input.now) status used.new indexes.old indexes.new) }
-    ensures fault { IfErr result (λ e. IsUnscanned input.now e
+    ensures fault { IfErr result (λ e. IsUnscanned 0 input.now e
         × (used.new ≡ used.old) × (indexes.new ≡ indexes.old)) }
 {
-    let mut list = Vec::new(alloc);
-    let mut blocks = Vec::new(alloc);
-    let found = BlockStage1Parse::find_structural_bits(input, &mut list, &mut blocks)?;
-    let listed = &list[..found.positions];
+    let mut index = Index::empty(alloc);
+    index.find(input)?;
+    let listed = index.structural_indexes();
     *used = listed.len();
     if listed.len() > indexes.len() {
         return Ok(TOO_LITTLE_ROOM);

@@ -2,15 +2,16 @@
 //!
 //! The nodes may be anything: an index is tested before a node or a text is read there. What is
 //! proved of the result is proved for nodes that list a document.
-ghost use Rattle.std.specs.Prelude.{◌≡◌, ◌≤◌, ◌<◌, ◌+◌, ◌-◌, ℕ, List, length, take, drop};
-ghost use Rattle.std.specs.Prelude.{IfSome, Some, option_and_then, slice_get};
+ghost use Rattle.std.specs.Prelude.{◌≡◌, ◌≤◌, ◌<◌, ◌+◌, ◌-◌, ℕ, List, [], length, take, drop};
+ghost use Rattle.std.specs.Prelude.{IfSome, Some, option_and_then, slice_get, unwrap_or};
 ghost use Rattle.std.specs.Result.{result_ok};
 ghost use Rattle.simd_json_parts.specs.Document.{Document, Elements, Members, elements, members};
 ghost use Rattle.simd_json_parts.specs.Followed.{fits_64};
 ghost use Rattle.simd_json_parts.specs.Listing.{elements_listing, listing, members_listing};
 ghost use Rattle.simd_json_parts.specs.Pointed.{array_index, element_at, member_at, named};
 ghost use Rattle.simd_json_parts.specs.Pointed.{pointed, unescaped};
-ghost use Rattle.simd_json_c.specs.Placed.{AreAt, IsFound, IsValueAt, index_of};
+ghost use Rattle.simd_json_c.specs.Placed.{AreAt, IsFound, IsValueAt, before_element};
+ghost use Rattle.simd_json_c.specs.Placed.{before_member, before_named, before_pointed, index_of};
 
 use crate::nodes::Node;
 use simd_json_parts::pointer::{is_index, is_key, next_token, read_index};
@@ -32,7 +33,8 @@ pub extern "C" fn simd_json_pointer(
     pointer: &[u8],
 ) -> usize
     ensures named { (d : Document) → IsValueAt nodes.now text.now from d
-        → IsFound nodes.now text.now (index_of result) (result_ok (pointed pointer.now d)) }
+        → IsFound nodes.now text.now (index_of result) (from + before_pointed pointer.now d)
+        (result_ok (pointed pointer.now d)) }
     ensures within { IfSome (index_of result) (λ i. i < length nodes.now) }
 {
     match walk(nodes, text, from, pointer) {
@@ -44,7 +46,8 @@ pub extern "C" fn simd_json_pointer(
 // The index that a pointer leads to.
 fn walk(nodes: &[Node], text: &[u8], from: usize, pointer: &[u8]) -> Option<usize>
     ensures { (d : Document) → IsValueAt nodes.now text.now from d
-        → IsFound nodes.now text.now result (result_ok (pointed pointer.now d)) }
+        → IsFound nodes.now text.now result (from + before_pointed pointer.now d)
+        (result_ok (pointed pointer.now d)) }
 {
     let mut reached = from;
     let mut followed = 0;
@@ -61,7 +64,8 @@ fn walk(nodes: &[Node], text: &[u8], from: usize, pointer: &[u8]) -> Option<usiz
 // The index of the value that a token names in the value at index `at`.
 fn child(nodes: &[Node], text: &[u8], at: usize, token: &[u8]) -> Option<usize>
     ensures { (d : Document) → IsValueAt nodes.now text.now at d
-        → IsFound nodes.now text.now result (result_ok (named token.now d)) }
+        → IsFound nodes.now text.now result (at + before_named token.now d)
+        (result_ok (named token.now d)) }
 {
     if at >= nodes.len() {
         return None;
@@ -79,8 +83,9 @@ fn child(nodes: &[Node], text: &[u8], at: usize, token: &[u8]) -> Option<usize>
 // The index of the element that a token names among the `len` from index `first` on.
 fn element(nodes: &[Node], first: usize, len: usize, token: &[u8]) -> Option<usize>
     ensures { (text : List ℕ) (ds : Elements) → AreAt nodes.now text first (elements_listing ds)
-        → len ≡ length (elements ds)
-        → IsFound nodes.now text result (result_ok (element_at ds (array_index token.now))) }
+        → len ≡ length (elements ds) → IsFound nodes.now text result
+        (first + before_element ds (unwrap_or (array_index token.now) 0))
+        (result_ok (element_at ds (array_index token.now))) }
 {
     let index = number_of(token)?;
     if index >= len {
@@ -106,7 +111,8 @@ fn number_of(token: &[u8]) -> Option<usize>
 fn nth(nodes: &[Node], first: usize, index: usize) -> Option<usize>
     ensures { (text : List ℕ) (ds : Elements) → AreAt nodes.now text first (elements_listing ds)
         → index < length (elements ds)
-        → IsFound nodes.now text result (slice_get (elements ds) index) }
+        → IsFound nodes.now text result (first + before_element ds index)
+        (slice_get (elements ds) index) }
 {
     let mut at = first;
     for passed in 0..index {
@@ -119,8 +125,9 @@ fn nth(nodes: &[Node], first: usize, index: usize) -> Option<usize>
 // token is.
 fn member(nodes: &[Node], text: &[u8], first: usize, len: usize, token: &[u8]) -> Option<usize>
     ensures { (ms : Members) → AreAt nodes.now text.now first (members_listing ms)
-        → len ≡ length (members ms)
-        → IsFound nodes.now text.now result (result_ok (member_at ms (unescaped token.now))) }
+        → len ≡ length (members ms) → IsFound nodes.now text.now result
+        (first + before_member ms (unwrap_or (unescaped token.now) []))
+        (result_ok (member_at ms (unescaped token.now))) }
 {
     let mut at = first;
     for passed in 0..len {

@@ -1,14 +1,7 @@
 //! An input that a parser keeps, with its structural indexes.
-ghost use Rattle.std.specs.Prelude.{◌≡◌, ℕ, pos, false, true, None, Ok, IfOk, IfErr, IsUtf8};
-ghost use Rattle.std.specs.Prelude.{option_map, Some};
-ghost use Rattle.std.specs.Result.{result_ok};
-ghost use Rattle.simd_json_ondemand.specs.Docs.{doc};
-ghost use Rattle.simd_json_parts.specs.Answer.{answer};
-ghost use Rattle.simd_json_parts.specs.Document.{Document};
+ghost use Rattle.std.specs.Prelude.{◌≡◌, true, None};
 ghost use Rattle.simd_json_parts.specs.InputFaults.{input_fault};
-ghost use Rattle.simd_json_parts.specs.Pointed.{pointed};
 ghost use Rattle.simd_json_parts.specs.Positions.{positions};
-ghost use Rattle.simd_json_c.specs.Indexed.{IsUnscanned};
 
 use simd_json::Result;
 use simd_json_ondemand::{Index, Value};
@@ -28,6 +21,19 @@ pub struct Source {
 }
 
 impl Source {
+    ghost use Rattle.std.specs.Prelude.{◌≡◌, ℕ, pos, false, true, None, Ok, IfOk, IfErr, IsUtf8};
+    ghost use Rattle.std.specs.Prelude.{option_map, Some};
+    ghost use Rattle.std.specs.Result.{result_ok};
+    ghost use Rattle.simd_json_ondemand.specs.Docs.{doc};
+    ghost use Rattle.simd_json_ondemand.specs.Sites.{site};
+    ghost use Rattle.simd_json_parts.specs.Answer.{answer};
+    ghost use Rattle.simd_json_parts.specs.Document.{Document};
+    ghost use Rattle.simd_json_parts.specs.InputFaults.{input_fault};
+    ghost use Rattle.simd_json_parts.specs.Pointed.{pointed};
+    ghost use Rattle.simd_json_c.specs.Found.{site_named};
+    ghost use Rattle.simd_json_c.specs.Indexed.{IsUnscanned};
+    ghost use Rattle.simd_json_c.specs.Kept.{KeepsSource, source_capacity};
+
     // None, which holds no memory.
     pub(crate) fn new(alloc: Global) -> Source
         ensures { result.is_scanned ≡ false }
@@ -44,8 +50,9 @@ impl Source {
         ensures zero { IfOk result (λ status. status ≡ pos 0) }
         ensures kept { IfOk result (λ status. (input_fault input.now ≡ None)
             × (self.new.bytes.items ≡ input.now) × (self.new.is_scanned ≡ true)) }
-        ensures fault { IfErr result (λ e. IsUnscanned input.now e
+        ensures fault { IfErr result (λ e. IsUnscanned (source_capacity self.old) input.now e
             × (self.new.is_scanned ≡ false)) }
+        ensures capacity { KeepsSource self.old self.new }
     {
         self.is_scanned = false;
         self.bytes.clear();
@@ -59,6 +66,8 @@ impl Source {
     pub(crate) fn named(&self, pointer: &[u8]) -> Option<Value<'_>>
         ensures none { self.now.is_scanned ≡ false → result ≡ None }
         ensures unnamed { (IsUtf8 pointer.now → ⊥) → result ≡ None }
+        ensures place { self.now.is_scanned ≡ true → IsUtf8 pointer.now
+            → option_map site result ≡ site_named pointer.now self.now.bytes.items }
         ensures named { self.now.is_scanned ≡ true → IsUtf8 pointer.now
             → (d : Document) (limit : ℕ) → answer self.now.bytes.items limit ≡ Ok d
             → option_map doc result

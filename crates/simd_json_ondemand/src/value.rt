@@ -23,6 +23,7 @@ pub struct Value<'d> {
 impl<'d> Document<'d> {
     ghost use Rattle.std.specs.Prelude.{◌≡◌, ◌<◌, length, slice_index};
     ghost use Rattle.simd_json_ondemand.specs.Docs.{doc, form, root, text, places};
+    ghost use Rattle.simd_json_ondemand.specs.Sites.{site};
     ghost use Rattle.simd_json_parts.specs.Bytes.{byte_at};
     ghost use Rattle.simd_json_parts.specs.Tokens.{form_at};
 
@@ -50,6 +51,7 @@ impl<'d> Document<'d> {
     #[tactic(auto, using(simd_json_check::proofs::Scans::some_position))]
     pub fn as_value(self) -> Value<'d>
         ensures document { doc result ≡ root self.entry }
+        ensures place { site result ≡ (text self.entry, places self.entry) }
         ensures token { form result
             ≡ form_at (text self.entry) (slice_index (places self.entry) 0) }
     {

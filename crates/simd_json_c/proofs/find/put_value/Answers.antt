@@ -1,6 +1,7 @@
-use Rattle.std.proofs.Common.{sym, inr, rules, w32}
+use Rattle.std.proofs.Common.{rules, w32}
 use Rattle.std.proofs.lemmas.Int.{to_z-of_z}
 use mir.Val.{SFits}
+use Rattle.simd_json_c.proofs.Naming.{is-some}
 use Rattle.simd_json_c.proofs.find.put_value.Goals as goal
 
 pub returns-in_default-2-clause-document : goal.returns-in_default-2-clause-document
@@ -15,4 +16,4 @@ returns-clause-any c =
     let fits : SFits w32 c.put_text.result = search rules in
     let w = c.in-Some-Some in
     rw to_z-of_z
-    (inr (c.args.value, w.kind, sym w.ensures, (w.bytes.now, sym w.ensures'.any, c.number_of-found.ensures, c.put_text.ensures)))
+    (is-some _ _ _ _ w.ensures (is-some _ _ _ _ w.ensures'.any (c.number_of-found.ensures, c.put_text.ensures)))

@@ -1,7 +1,8 @@
-use Rattle.std.proofs.Common.{sym, subst, arith}
+use Rattle.std.proofs.Common.{◌+◌, sym, subst, arith}
 use Rattle.std.specs.Result.{result_ok}
+use Rattle.simd_json_parts.specs.Document.{array, object}
 use Rattle.simd_json_parts.specs.Pointed.{named}
-use Rattle.simd_json_c.specs.Placed.{IsFound, IsValueAt}
+use Rattle.simd_json_c.specs.Placed.{IsFound, IsValueAt, before_named}
 use Rattle.simd_json_c.proofs.Placing.{elements-at, members-at, value-header, value-some, value-within}
 use Rattle.simd_json_c.proofs.pointer.child.Goals as goal
 
@@ -15,8 +16,10 @@ returns-then-node-eq-ARRAY c d a =
     let text = c.args.text.now in
     let is = (value-header nodes text c.args.at d _ a).of_array c.if-node-eq-ARRAY.true in
     let under = elements-at nodes text c.args.at is.0 (subst (IsValueAt nodes text c.args.at) is.1 a) in
-    subst (λ e. IsFound nodes text c.element.result (result_ok (named c.args.token.now e))) (sym is.1)
-    (c.element.ensures text is.0 under is.2)
+    let t = c.args.token.now in
+    subst (λ e. IsFound nodes text c.element.result (c.args.at + before_named t e) (result_ok (named t e))) (sym is.1)
+    (subst (λ i. IsFound nodes text c.element.result i (result_ok (named t (array is.0)))) (omega arith)
+    (c.element.ensures text is.0 under is.2))
 
 pub returns-then-node-eq-OBJECT : goal.returns-then-node-eq-OBJECT
 returns-then-node-eq-OBJECT c d a =
@@ -24,8 +27,10 @@ returns-then-node-eq-OBJECT c d a =
     let text = c.args.text.now in
     let is = (value-header nodes text c.args.at d _ a).of_object c.if-node-eq-OBJECT.true in
     let under = members-at nodes text c.args.at is.0 (subst (IsValueAt nodes text c.args.at) is.1 a) in
-    subst (λ e. IsFound nodes text c.member.result (result_ok (named c.args.token.now e))) (sym is.1)
-    (c.member.ensures is.0 under is.2)
+    let t = c.args.token.now in
+    subst (λ e. IsFound nodes text c.member.result (c.args.at + before_named t e) (result_ok (named t e))) (sym is.1)
+    (subst (λ i. IsFound nodes text c.member.result i (result_ok (named t (object is.0)))) (omega arith)
+    (c.member.ensures is.0 under is.2))
 
 pub returns : goal.returns
 returns c d a =

@@ -11,7 +11,7 @@ pub returns-then-at-nodes : goal.returns-then-at-nodes
 returns-then-at-nodes c ms a is =
     let l = c.loop-passed in
     let next =
-    next-member c.args.nodes.now c.args.text.now c.args.token.now ms c.args.len l.passed l.at some_node
+    next-member c.args.nodes.now c.args.text.now c.args.token.now ms c.args.len c.args.first l.passed l.at some_node
     (l.invariant ms a is) (omega arith) in
     absurd (omega (arith, next.0, c.if-at-nodes.true))
 
@@ -19,9 +19,11 @@ pub returns-then-is_key : goal.returns-then-is_key
 returns-then-is_key c ms a is =
     let l = c.loop-passed in
     let next =
-    next-member c.args.nodes.now c.args.text.now c.args.token.now ms c.args.len l.passed l.at _ (l.invariant ms a is) (omega arith) in
+    next-member c.args.nodes.now c.args.text.now c.args.token.now ms c.args.len c.args.first l.passed l.at _
+    (l.invariant ms a is) (omega arith) in
     let key = c.text_at.ensures next.1.within ∙ next.1.key_is in
-    (next.1.value, next.1.here (c.if-is_key.ensures.0 refl ∙ ap Some key), next.1.placed)
+    let is_named = c.if-is_key.ensures.0 refl ∙ ap Some key in
+    (next.1.value, next.1.here is_named, next.1.before is_named, next.1.placed)
 
 pub loop-passed-preserved : goal.loop-passed-preserved
 loop-passed-preserved c ms a is =
@@ -29,23 +31,24 @@ loop-passed-preserved c ms a is =
     let text = c.args.text.now in
     let t = c.args.token.now in
     let l = c.loop-passed in
-    let next = next-member nodes text t ms c.args.len l.passed l.at _ (l.invariant ms a is) (omega arith) in
+    let next = next-member nodes text t ms c.args.len c.args.first l.passed l.at _ (l.invariant ms a is) (omega arith) in
     let key = c.text_at.ensures next.1.within ∙ next.1.key_is in
     let other : unescaped t ≡ Some next.1.key → ⊥ =
     λ found. true≢false (sym (c.if-is_key.ensures.1 (found ∙ ap Some (sym key)))) in
     let same : l.at + 1 + length (listing next.1.value) ≡ c.in_ok-at.at =
     cc (c.in_ok-at.ensures text next.1.value next.1.placed) in
-    subst (MembersLeft nodes text t ms c.args.len (l.passed + 1)) same (next.1.later other)
+    subst (MembersLeft nodes text t ms c.args.len c.args.first (l.passed + 1)) same (next.1.later other)
 
 pub returns-in_err-at : goal.returns-in_err-at
 returns-in_err-at c ms a is =
     let l = c.loop-passed in
     let next =
-    next-member c.args.nodes.now c.args.text.now c.args.token.now ms c.args.len l.passed l.at some_node
+    next-member c.args.nodes.now c.args.text.now c.args.token.now ms c.args.len c.args.first l.passed l.at some_node
     (l.invariant ms a is) (omega arith) in
     absurd (cc (c.in_err-at.ensures c.args.text.now next.1.value next.1.placed))
 
 pub returns : goal.returns
 returns c ms a is =
     let l = c.loop-passed in
-    members-none c.args.nodes.now c.args.text.now c.args.token.now ms c.args.len l.passed l.at (l.invariant ms a is) (omega arith)
+    members-none c.args.nodes.now c.args.text.now c.args.token.now ms c.args.len c.args.first l.passed l.at
+    (l.invariant ms a is) (omega arith)

@@ -8,4 +8,4 @@ use Rattle.simd_json_c.proofs.pointer.member.Given as goal
 abbrev pub invariant-loop-passed : goal.invariant-loop-passed
 invariant-loop-passed l =
     (ms : Members) → AreAt l.nodes l.text l.first (members_listing ms) → l.len ≡ length (members ms)
-    → MembersLeft l.nodes l.text l.token ms l.len l.passed l.at
+    → MembersLeft l.nodes l.text l.token ms l.len l.first l.passed l.at

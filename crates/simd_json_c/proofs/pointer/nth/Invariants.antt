@@ -8,4 +8,4 @@ use Rattle.simd_json_c.proofs.pointer.nth.Given as goal
 abbrev pub invariant-loop-passed : goal.invariant-loop-passed
 invariant-loop-passed l =
     (text : List ℕ) (ds : Elements) → AreAt l.nodes text l.first (elements_listing ds) → l.index < length (elements ds)
-    → ElementsLeft l.nodes text ds l.passed l.at
+    → ElementsLeft l.nodes text ds l.first l.passed l.at

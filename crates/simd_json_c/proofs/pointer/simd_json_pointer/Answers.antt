@@ -8,6 +8,6 @@ returns-in_default-clause-named c d a =
     absurd (omega (
       arith,
       c.if-found-nodes.false,
-      value-within c.args.nodes.now c.args.text.now c.in-Some.found f.0 f.2,
+      value-within c.args.nodes.now c.args.text.now c.in-Some.found f.0 f.3,
       value-some f.0,
     ))

@@ -1,12 +1,16 @@
-use Rattle.std.proofs.Common.{◌∙◌, ap, sym, subst, refl, arith, drop}
+use Rattle.std.proofs.Common.{◌∙◌, ◌+◌, ap, sym, subst, refl, arith, drop}
+use Rattle.std.proofs.lemmas.List.{drop_all}
+use Rattle.std.specs.List.{slice_range}
 use Rattle.std.specs.Result.{result_ok}
 use Rattle.simd_json_parts.specs.Pointed.{pointed}
 use Rattle.simd_json_parts.proofs.Pointers.Pointed.{further, some-left, stop-of, stuck-at-token, stuck-without-slash, whole}
-use Rattle.simd_json_c.specs.Placed.{IsFound}
+use Rattle.simd_json_parts.specs.Followed.{tokens_after}
+use Rattle.simd_json_c.specs.Placed.{IsFound, before_followed, before_pointed}
+use Rattle.simd_json_c.proofs.Placing.{before-next}
 use Rattle.simd_json_c.proofs.pointer.walk.Goals as goal
 
 pub loop-token-init : goal.loop-token-init
-loop-token-init c = (omega arith, λ d a. (d, a, refl))
+loop-token-init c = (omega arith, λ d a. (d, a, refl, refl))
 
 pub loop-token-preserved : goal.loop-token-preserved
 loop-token-preserved c =
@@ -16,7 +20,14 @@ loop-token-preserved c =
       at.within.1,
       λ d a. (let was = l.invariant.1 d a in
           let next = c.in_ok-reached.ensures was.0 was.1 in
-          (next.0, next.2, was.2 ∙ further p l.followed c.in-Some.token.end was.0 next.0 at next.1)),
+          let end = c.in-Some.token.end in
+          let split = ap (λ ts. before_followed ts was.0) at.split
+          ∙ before-next (slice_range p (l.followed + 1) end) (tokens_after (drop end p)) was.0 next.0 next.1 in (
+            next.0,
+            next.3,
+            was.2 ∙ further p l.followed end was.0 next.0 at next.1,
+            omega (arith, next.2, split, was.3),
+          )),
     )
 
 pub returns-in_err-reached : goal.returns-in_err-reached
@@ -25,7 +36,8 @@ returns-in_err-reached c d a =
     let i = c.loop-token.followed in
     let at = c.in-Some.ensures.0 in
     let was = c.loop-token.invariant.1 d a in
-    subst (λ r. IsFound c.args.nodes.now c.args.text.now r (result_ok (pointed p d))) (sym c.from_residual.ensures)
+    subst (λ r. IsFound c.args.nodes.now c.args.text.now r (c.args.from + before_pointed p d) (result_ok (pointed p d)))
+    (sym c.from_residual.ensures)
     (ap result_ok was.2
     ∙ stop-of i (drop i p) was.0 (some-left p i at.begins.0)
     (stuck-at-token p i c.in-Some.token.end was.0 at (c.in_err-reached.ensures was.0 was.1)))
@@ -42,4 +54,6 @@ returns-then-followed-pointer c d a =
 pub returns : goal.returns
 returns c d a =
     let was = c.loop-token.invariant.1 d a in
-    (was.0, ap result_ok (was.2 ∙ whole c.loop-token.followed c.args.pointer.now was.0 (omega arith)), was.1)
+    let i = c.loop-token.followed in
+    let none = ap (λ q. before_followed (tokens_after q) was.0) (drop_all i c.args.pointer.now (omega arith)) in
+    (was.0, ap result_ok (was.2 ∙ whole i c.args.pointer.now was.0 (omega arith)), omega (arith, none, was.3), was.1)
