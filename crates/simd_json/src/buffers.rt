@@ -1,23 +1,18 @@
 //! The memory that parses use one after another: what the first stage lists, and the stack of the
 //! second.
 ghost use Rattle.std.specs.Prelude.{◌≡◌, ◌≤◌, ◌<◌, ◌⊎◌, [], length};
-ghost use Rattle.std.specs.Prelude.{OnOk, OnErr, IfOk, IfErr, Some, Err};
+ghost use Rattle.std.specs.Prelude.{OnOk, OnErr, IfOk, IfErr, Some};
 ghost use Rattle.simd_json.specs.Capacities.{HoldsScan, KeepsCapacities, ListsSame, capacity};
 ghost use Rattle.simd_json.specs.Capacities.{new_buffers, with_room};
 ghost use Rattle.simd_json_check.specs.Capacities.{IsOutOfMemory, LacksMemory, capped};
 ghost use Rattle.simd_json_check.specs.Capacities.{default_max_depth};
-ghost use Rattle.simd_json_parts.specs.Descent.{descent};
 ghost use Rattle.simd_json_parts.specs.InputFaults.{input_fault};
-ghost use Rattle.simd_json_parts.specs.Positions.{positions};
-ghost use Rattle.simd_json_stages.specs.Building.{IsWritten};
-ghost use Rattle.simd_json_stages.specs.NodesEnough.{nodes_enough};
-ghost use Rattle.simd_json_stages.specs.Rejections.{IsTokenFault};
 
 use crate::DEFAULT_MAX_DEPTH;
 use simd_json_check::lists::lengthen;
 use simd_json_check::{FEW_OPEN, Index};
 use simd_json_parts::error::Result;
-use simd_json_stages::stage2::{NodeSink, Original, StackState, build_tape};
+use simd_json_stages::stage2::StackState;
 use std::alloc::{Allocator, Global};
 use std::marker::Model;
 
@@ -34,7 +29,7 @@ pub struct Buffers<A: Allocator = Global> {
     pub(crate) stack: Vec<StackState, A>,
     // a stack for a few containers, in place of one that is too short, so that a parse of a short
     // input allocates none
-    few: [StackState; FEW_OPEN],
+    pub(crate) few: [StackState; FEW_OPEN],
     // how many containers may be open at a time
     pub(crate) max_depth: usize,
 }
@@ -178,31 +173,5 @@ impl<A: Allocator> Buffers<A> {
             return Err(e.into());
         }
         Ok(())
-    }
-
-    // Runs the second stage over what the last scan listed, and writes the nodes of the input to a
-    // sink.
-    #[inline(always)]
-    pub(crate) fn build_tape<'de, K: Original, S: NodeSink<'de>>(
-        &mut self,
-        input: &'de mut [u8],
-        sink: &mut S,
-    ) -> Result<()>
-        requires input { input.old ≡ K.bytes }
-        requires scanned { HoldsScan K.bytes self.old }
-        requires room { nodes_enough (length (positions K.bytes)) self.old.limit
-            ≤ S.node_room sink.old }
-        requires empty { S.held_nodes sink.old ≡ [] }
-        ensures same { self.new ≡ self.old }
-        ensures room { S.node_room sink.new ≡ S.node_room sink.old }
-        ensures lender { S.lender sink.new ≡ S.lender sink.old }
-        ensures few { OnOk result (length (S.held_nodes sink.new) ≤ length (positions K.bytes)) }
-        ensures built { OnOk result (IsWritten K.bytes self.old.limit (S.held_nodes sink.new)) }
-        ensures rejected { IfErr result
-            (λ e. IsTokenFault e × (descent K.bytes self.old.limit ≡ Err e)) }
-    {
-        let scanned = self.index.scanned();
-        let stack = self.stack.as_mut_slice();
-        build_tape::<K, S>(input, scanned, stack, &mut self.few, sink, self.max_depth)
     }
 }

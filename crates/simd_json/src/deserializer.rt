@@ -1,4 +1,4 @@
-//! Stepped through the nodes of a tape, one after another.
+//! Steps through the nodes of a tape, one after another.
 ghost use Rattle.std.specs.Prelude.{◌≡◌, ◌≢◌, ◌<◌, ◌↔◌, ◌+◌, [], ℕ};
 ghost use Rattle.std.specs.Prelude.{List, length, slice_get};
 ghost use Rattle.std.specs.Prelude.{IsFalse, IfOk, Some};

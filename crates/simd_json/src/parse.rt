@@ -25,7 +25,7 @@ use crate::tape::Tape;
 use crate::{DEFAULT_MAX_DEPTH, INPUT_PADDING};
 use simd_json_parts::error::{Error, ErrorType, Result};
 use simd_json_parts::node::Node;
-use simd_json_stages::stage2::{ListSink, Original, nodes_enough};
+use simd_json_stages::stage2::{ListSink, Original, build_tape, nodes_enough};
 use std::alloc::Allocator;
 use std::marker::Brand;
 
@@ -351,7 +351,15 @@ fn build<'de, K: Original, A: Allocator, B: Allocator>(
         (λ e. IsTokenFault e × (descent K.bytes buffers.old.limit ≡ Err e)) }
 {
     let mut sink = ListSink { list };
-    match buffers.build_tape::<K, ListSink<'_, 'de, B>>(s, &mut sink) {
+    let built = build_tape::<K, ListSink<'_, 'de, B>>(
+        s,
+        buffers.index.scanned(),
+        buffers.stack.as_mut_slice(),
+        &mut buffers.few,
+        &mut sink,
+        buffers.max_depth,
+    );
+    match built {
         Ok(()) => Ok(()),
         Err(e) => {
             sink.list.clear();

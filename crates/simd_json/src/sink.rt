@@ -7,7 +7,7 @@ ghost use Rattle.simd_json_parts.specs.Limits.{max_length};
 
 use crate::buffers::Buffers;
 use simd_json_parts::error::Result;
-use simd_json_stages::stage2::{NodeSink, Original};
+use simd_json_stages::stage2::{NodeSink, Original, build_tape};
 use std::alloc::Allocator;
 
 /// Reads a document as [`fill_tape`] does, and writes its nodes to an empty sink in place of a
@@ -40,5 +40,12 @@ pub fn fill_sink<'de, K: Original, S: NodeSink<'de>, A: Allocator>(
     ensures capacities { KeepsCapacities buffers.old buffers.new }
 {
     buffers.find_positions(s)?;
-    buffers.build_tape::<K, S>(s, sink)
+    build_tape::<K, S>(
+        s,
+        buffers.index.scanned(),
+        buffers.stack.as_mut_slice(),
+        &mut buffers.few,
+        sink,
+        buffers.max_depth,
+    )
 }
