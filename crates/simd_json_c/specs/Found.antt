@@ -43,14 +43,14 @@ abbrev pub IsNotFound : ℤ → Found → Found → List ℕ → List ℕ → Ty
 IsNotFound status old_found found old new = (status ≡ no_value) × (found ≡ old_found) × (new ≡ old)
 
 -- the value's kind, and its bytes as they are written, which are put or have too little room
-abbrev pub IsTextOf : ValueType → List ℕ → ℤ → Found → List ℕ → List ℕ → Type 0
-IsTextOf k bytes status found old new = (found.kind ≡ kind_number k) × IsTextPut bytes status found.len old new
+abbrev pub IsPutAs : ValueType → List ℕ → ℤ → Found → List ℕ → List ℕ → Type 0
+IsPutAs k bytes status found old new = (found.kind ≡ kind_number k) × IsTextPut bytes status found.len old new
 
 -- of a place that has both
 abbrev pub IsValuePut : Value → ℤ → Found → Found → List ℕ → List ℕ → Type 0
 IsValuePut v status old_found found old new =
     MatchOption (kind v) (IsNotFound status old_found found old new)
-    (λ k. MatchOption (written v) (IsNotFound status old_found found old new) (λ bytes. IsTextOf k bytes status found old new))
+    (λ k. MatchOption (written v) (IsNotFound status old_found found old new) (λ bytes. IsPutAs k bytes status found old new))
 
 -- where the pointer leads in b, whatever the bytes are
 abbrev pub site_named : List ℕ → List ℕ → Option Site
@@ -67,7 +67,7 @@ abbrev pub IsNamedPut : List ℕ → List ℕ → ℤ → Found → Found → Li
 IsNamedPut b pointer status old_found found old new = (d : Document) (limit : ℕ) → answer b limit ≡ Ok d
     → MatchOption (result_ok (pointed pointer d)) (IsNotFound status old_found found old new)
     (λ e. (v : Value) × (site_named pointer b ≡ Some (site v)) × (doc v ≡ Some e)
-    × ((bytes : List ℕ) × (written v ≡ Some bytes) × IsTextOf (value_type e) bytes status found old new))
+    × ((bytes : List ℕ) × (written v ≡ Some bytes) × IsPutAs (value_type e) bytes status found old new))
 
 -- in the input that is kept, or in none
 abbrev pub IsFoundIn : Source → List ℕ → ℤ → Found → Found → List ℕ → List ℕ → Type 0

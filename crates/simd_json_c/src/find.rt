@@ -5,7 +5,7 @@ ghost use Rattle.simd_json_ondemand.specs.Docs.{doc};
 ghost use Rattle.simd_json_ondemand.specs.Written.{written};
 ghost use Rattle.simd_json_parts.specs.Document.{Document};
 ghost use Rattle.simd_json_parts.specs.Views.{value_type};
-ghost use Rattle.simd_json_c.specs.Found.{IsFoundIn, IsFoundWith, IsInputWith, IsTextOf};
+ghost use Rattle.simd_json_c.specs.Found.{IsFoundIn, IsFoundWith, IsInputWith, IsPutAs};
 ghost use Rattle.simd_json_c.specs.Found.{IsValuePut, kind_number};
 
 use crate::parser::Parser;
@@ -86,7 +86,7 @@ fn put_value(value: Value<'_>, found: &mut Found, out: &mut [u8]) -> i32
     ensures any { IsValuePut value.entry result found.old found.new out.old out.new }
     ensures document { (e : Document) → doc value.entry ≡ Some e
         → (bytes : List ℕ) × (written value.entry ≡ Some bytes)
-        × IsTextOf (value_type e) bytes result found.new out.old out.new }
+        × IsPutAs (value_type e) bytes result found.new out.old out.new }
 {
     // a law
     kinds_are_those_of_documents();
