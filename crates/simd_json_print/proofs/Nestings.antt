@@ -1,5 +1,5 @@
 -- The steps of the walk, by what is left of the containers that are open.
-use Rattle.std.proofs.Common.{◌≡◌, ◌∙◌, ap, ap₂, sym, refl, subst, ◌<◌, ◌≤◌, ◌+◌, ◌-◌, ℕ, zero, suc, Bool, true, false, cond, List}
+use Rattle.std.proofs.Common.{◌≡◌, ◌∙◌, ap, ap₂, sym, refl, subst, ◌<◌, ◌≤◌, ◌+◌, ◌-◌, ◌^◌, ◌⊎◌, inl, inr, ℕ, zero, suc, Bool, true, false, cond, List}
 use Rattle.std.proofs.Common.{[], ◌∷◌, ◌++◌, length, length-append, map, min, take, drop, get_or, set}
 use Rattle.std.proofs.Common.{append_assoc, append-nil, arith}
 use Rattle.std.proofs.lemmas.List.{get_or-set_other, get_or-set_same, length-map, take-map, drop-map}
@@ -9,6 +9,7 @@ use Rattle.std.proofs.Math.Seq.{take-append_seam, drop-append_seam}
 use Rattle.simd_json_parts.proofs.Documents.Fronts.{positive}
 use Rattle.simd_json_parts.specs.Bytes.{comma, left_bracket, right_bracket, left_brace, right_brace}
 use Rattle.simd_json_parts.specs.Document.{Document, Elements, no_elements, element, Members, no_members, member}
+use Rattle.simd_json_parts.specs.Limits.{depth}
 use Rattle.simd_json_parts.specs.Listing.{listing, elements_listing, members_listing}
 use Rattle.simd_json_parts.specs.Nodes.{Item, string_item, item_of}
 use Rattle.simd_json_parts.specs.Headers.{count_of}
@@ -16,23 +17,31 @@ use Rattle.simd_json_parts.specs.Printed.{quoted}
 use Rattle.simd_json_parts.specs.declared.node.Node.{Node}
 use Rattle.simd_json_parts.specs.declared.node.Node.TheVariants as nodes
 use Rattle.simd_json_print.specs.Frames.{Frame, elements_left, members_left, has_members, frame_listing, frame_text, frames_listing}
-use Rattle.simd_json_print.specs.Frames.{frames_text, AreNested, IsBetween, IsAtValue}
+use Rattle.simd_json_print.specs.Frames.{frames_text, AreNested, IsBetween, IsAtValue, IsDeep, IsNext, no_level}
 use Rattle.simd_json_print.specs.Layout.{leaf_text}
 use Rattle.simd_json_parts.specs.Printed.{line, after_name, text, elements_text, members_text}
-use Rattle.simd_json_print.specs.declared.document.walk.Nesting.{Nesting}
-use Rattle.simd_json_print.proofs.Walk.{IsOpened, is_object_item, is-leaf, is-opened, beneath-within, same-first, same-rest, split-first}
+use Rattle.simd_json_print.specs.declared.document.walk.Level.{Level}
+use Rattle.simd_json_print.proofs.Walk.{IsOpened, is_object_item, is-leaf, is-opened, beneath-within, positive-depth}
+use Rattle.simd_json_print.proofs.Walk.{same-first, same-rest, split-first}
 
 -- ---- the first step
 
-pub begins : (p : Bool) (n : ℕ) (o : Nesting) (f : Frame) (items : List Item) → o.count ≡ 1 → get_or o.ends 0 0 ≡ 0
-    → get_or o.are_objects 0 false ≡ has_members f → items ≡ frame_listing f → IsBetween p n o true items [] (frame_text p n true f)
-begins p n o f items one end kind is = record {
-  frames = f ∷ [];
-  number = sym one;
-  are_nested = (end, kind, tt);
-  listed = is ∙ sym (append-nil (frame_listing f));
-  printed = append-nil (frame_text p (n + 0) true f) ∙ ap (λ k. frame_text p k true f) (omega arith);
+pub at-start : (p : Bool) (n : ℕ) (levels : List Level) (count : ℕ) (items : List Item) (d : Document) → count ≡ 0 → items ≡ listing d
+    → IsAtValue p n levels count items [] d
+at-start p n levels count items d none is = record {
+  value = d;
+  frames = [];
+  number = sym none;
+  within = omega arith;
+  are_nested = tt;
+  listed = is ∙ sym (append-nil (listing d));
+  printed = append-nil (text p d (n + 0)) ∙ ap (λ k. text p d k) (omega arith);
 }
+
+pub begins : (p : Bool) (n : ℕ) (levels : List Level) (count : ℕ) (ns : List Node) (d : Document) → count ≡ 0 → map item_of ns ≡ listing d
+    → IsNext p n levels count (map item_of ns) [] d
+begins p n levels count [] d none is = absurd (omega (arith, positive d, ap length is))
+begins p n levels count (x ∷ ns) d none is = at-start p n levels count (map item_of (x ∷ ns)) d none is
 
 -- ---- an element or a member
 
@@ -68,14 +77,28 @@ member-at p n i j first done whole k d ms outer one two is =
     (line p m ++ right_brace ∷ []) (frames_text p n false outer) ∙ is
 
 -- a container of which some is open
-nested-more : (ends : List ℕ) (are : List Bool) (fs : List Frame) (k end : ℕ) (b : Bool) → length fs ≤ k → AreNested ends are fs
-    → AreNested (set ends k end) (set are k b) fs
-nested-more ends are [] k end b fits is = is
-nested-more ends are (f ∷ outer) k end b fits is = (
-  get_or-set_other ends k (length outer) end 0 (λ same. absurd (omega (arith, fits, same))) ∙ is.0,
-  get_or-set_other are k (length outer) b false (λ same. absurd (omega (arith, fits, same))) ∙ is.1,
-  nested-more ends are outer k end b (omega (arith, fits)) is.2,
-)
+nested-more : (levels : List Level) (limit : ℕ) (fs : List Frame) (k : ℕ) (level : Level) → length fs ≤ k → AreNested levels limit fs
+    → AreNested (set levels k level) limit fs
+nested-more levels limit [] k level fits is = is
+nested-more levels limit (f ∷ outer) k level fits is =
+    let same = get_or-set_other levels k (length outer) level no_level (λ same. absurd (omega (arith, fits, same))) in (
+      ap (λ l. l.end) same ∙ is.0,
+      ap (λ l. l.is_object) same ∙ is.1,
+      is.2,
+      nested-more levels limit outer k level (omega (arith, fits)) is.3,
+    )
+
+-- a longer list of levels
+nested-longer : (levels new : List Level) (limit : ℕ) (fs : List Frame) → length fs ≤ length levels
+    → ((k : ℕ) → k < length levels → get_or new k no_level ≡ get_or levels k no_level) → AreNested levels limit fs → AreNested new limit fs
+nested-longer levels new limit [] fits longer is = is
+nested-longer levels new limit (f ∷ outer) fits longer is =
+    let same = longer (length outer) (omega (arith, fits)) in (
+      ap (λ l. l.end) same ∙ is.0,
+      ap (λ l. l.is_object) same ∙ is.1,
+      is.2,
+      nested-longer levels new limit outer (omega (arith, fits)) longer is.3,
+    )
 
 set-here : {A : Type 0} (xs : List A) (k j : ℕ) (v default : A) → k < length xs → j ≡ k → get_or (set xs k v) j default ≡ v
 set-here xs k j v default room same = ap (λ i. get_or (set xs k v) i default) same ∙ get_or-set_same xs k v default room
@@ -92,45 +115,50 @@ none-of : (xs : List Item) → length xs ≡ 0 → xs ≡ []
 none-of [] none = refl
 none-of (x ∷ xs) none = absurd (omega (arith, none))
 
--- where these containers are open, and this is the whole text
-module _ (p : Bool) (n : ℕ) (o : Nesting) (whole : List ℕ) where
-  elements-front : (first : Bool) (items : List Item) (done : List ℕ) (fs : List Frame) → length fs ≡ o.count
-      → AreNested o.ends o.are_objects fs → items ≡ frames_listing fs → done ++ frames_text p n first fs ≡ whole → 0 < o.count
-      → get_or o.are_objects (o.count - 1) false ≡ false → get_or o.ends (o.count - 1) 0 < length items
-      → IsAtValue p n o items (done ++ (cond first left_bracket comma ∷ line p (n + o.count))) whole
+-- where these containers are open in the root
+module _ (p : Bool) (n : ℕ) (levels : List Level) (o : ℕ) (root : Document) where
+  abbrev whole : List ℕ
+  whole = text p root n
+
+  elements-front : (first : Bool) (items : List Item) (done : List ℕ) (fs : List Frame) → length fs ≡ o
+      → AreNested levels (depth root) fs → items ≡ frames_listing fs → done ++ frames_text p n first fs ≡ whole → 0 < o
+      → (get_or levels (o - 1) no_level).is_object ≡ false → (get_or levels (o - 1) no_level).end < length items
+      → IsAtValue p n levels o items (done ++ (cond first left_bracket comma ∷ line p (n + o))) root
   elements-front first items done [] number are listed is some kind live = absurd (omega (arith, number, some))
   elements-front first items done (members_left ms ∷ outer) number are listed is some kind live =
-      absurd (both_ways _ (sym (same-at o.are_objects o.count outer false number) ∙ kind) are.1)
+      absurd (both_ways _ (sym (ap (λ l. l.is_object) (same-at levels o outer no_level number)) ∙ kind) are.1)
   elements-front first items done (elements_left no_elements ∷ outer) number are listed is some kind live =
-      absurd (omega (arith, same-at o.ends o.count outer 0 number, are.0, ap length listed, live))
+      absurd (omega (arith, ap (λ l. l.end) (same-at levels o outer no_level number), are.0, ap length listed, live))
   elements-front first items done (elements_left (element d ds) ∷ outer) number are listed is some kind live = record {
     value = d;
     frames = elements_left ds ∷ outer;
     number = number;
-    are_nested = are;
+    within = omega (arith, are.2);
+    are_nested = (are.0, are.1, omega (arith, are.2), are.3);
     listed = listed ∙ append_assoc (listing d) (elements_listing ds) (frames_listing outer);
-    printed = element-at p n (n + o.count) (n + suc (length outer)) first done whole d ds outer (omega (arith, number)) (omega arith) is;
+    printed = element-at p n (n + o) (n + suc (length outer)) first done whole d ds outer (omega (arith, number)) (omega arith) is;
   }
 
-  pub element-before : (first : Bool) (items : List Item) (done : List ℕ) → IsBetween p n o first items done whole
-      → 0 < o.count → get_or o.are_objects (o.count - 1) false ≡ false → get_or o.ends (o.count - 1) 0 < length items
-      → IsAtValue p n o items (done ++ (cond first left_bracket comma ∷ line p (n + o.count))) whole
+  pub element-before : (first : Bool) (items : List Item) (done : List ℕ) → IsBetween p n levels o first items done root
+      → 0 < o → (get_or levels (o - 1) no_level).is_object ≡ false → (get_or levels (o - 1) no_level).end < length items
+      → IsAtValue p n levels o items (done ++ (cond first left_bracket comma ∷ line p (n + o))) root
   element-before first items done is = elements-front first items done is.frames is.number is.are_nested is.listed is.printed
 
   -- the name is the first node
   pub record IsNamed (first : Bool) (x : Item) (items : List Item) (done : List ℕ) : Type 0 where
     pub name : List ℕ
     pub named : x ≡ string_item name
-    pub at : IsAtValue p n o items (done ++ (cond first left_brace comma ∷ (line p (n + o.count) ++ (quoted name ++ after_name p)))) whole
+    pub at : IsAtValue p n levels o items (done ++ (cond first left_brace comma ∷ (line p (n + o) ++ (quoted name ++ after_name p)))) root
 
-  members-front : (first : Bool) (x : Item) (items : List Item) (done : List ℕ) (fs : List Frame) → length fs ≡ o.count
-      → AreNested o.ends o.are_objects fs → x ∷ items ≡ frames_listing fs → done ++ frames_text p n first fs ≡ whole → 0 < o.count
-      → get_or o.are_objects (o.count - 1) false ≡ true → get_or o.ends (o.count - 1) 0 < suc (length items) → IsNamed first x items done
+  members-front : (first : Bool) (x : Item) (items : List Item) (done : List ℕ) (fs : List Frame) → length fs ≡ o
+      → AreNested levels (depth root) fs → x ∷ items ≡ frames_listing fs → done ++ frames_text p n first fs ≡ whole → 0 < o
+      → (get_or levels (o - 1) no_level).is_object ≡ true → (get_or levels (o - 1) no_level).end < suc (length items)
+      → IsNamed first x items done
   members-front first x items done [] number are listed is some kind live = absurd (omega (arith, number, some))
   members-front first x items done (elements_left ds ∷ outer) number are listed is some kind live =
-      absurd (both_ways _ are.1 (sym (same-at o.are_objects o.count outer false number) ∙ kind))
+      absurd (both_ways _ are.1 (sym (ap (λ l. l.is_object) (same-at levels o outer no_level number)) ∙ kind))
   members-front first x items done (members_left no_members ∷ outer) number are listed is some kind live =
-      absurd (omega (arith, same-at o.ends o.count outer 0 number, are.0, ap length listed, live))
+      absurd (omega (arith, ap (λ l. l.end) (same-at levels o outer no_level number), are.0, ap length listed, live))
   members-front first x items done (members_left (member k d ms) ∷ outer) number are listed is some kind live = record {
     name = k;
     named = same-first x _ items _ listed;
@@ -138,26 +166,57 @@ module _ (p : Bool) (n : ℕ) (o : Nesting) (whole : List ℕ) where
       value = d;
       frames = members_left ms ∷ outer;
       number = number;
-      are_nested = are;
+      within = omega (arith, are.2);
+      are_nested = (are.0, are.1, omega (arith, are.2), are.3);
       listed = same-rest x _ items _ listed ∙ append_assoc (listing d) (members_listing ms) (frames_listing outer);
-      printed = member-at p n (n + o.count) (n + suc (length outer)) first done whole k d ms outer (omega (arith, number)) (omega arith) is;
+      printed = member-at p n (n + o) (n + suc (length outer)) first done whole k d ms outer (omega (arith, number)) (omega arith) is;
     };
   }
 
-  pub member-before : (first : Bool) (x : Item) (items : List Item) (done : List ℕ) → IsBetween p n o first (x ∷ items) done whole
-      → 0 < o.count → get_or o.are_objects (o.count - 1) false ≡ true → get_or o.ends (o.count - 1) 0 < suc (length items)
+  pub member-before : (first : Bool) (x : Item) (items : List Item) (done : List ℕ) → IsBetween p n levels o first (x ∷ items) done root
+      → 0 < o → (get_or levels (o - 1) no_level).is_object ≡ true → (get_or levels (o - 1) no_level).end < suc (length items)
       → IsNamed first x items done
   member-before first x items done is = members-front first x items done is.frames is.number is.are_nested is.listed is.printed
 
   -- ---- a value
 
-  pub no-value : (items : List Item) (done : List ℕ) → length items ≡ 0 → IsAtValue p n o items done whole → ⊥
+  no-value : (items : List Item) (done : List ℕ) → length items ≡ 0 → IsAtValue p n levels o items done root → ⊥
   no-value items done none is =
       omega (arith, positive is.value, none, ap length is.listed, length-append (listing is.value) (frames_listing is.frames))
 
+  pub next-value : (items : List Item) (done : List ℕ) → IsAtValue p n levels o items done root → IsNext p n levels o items done root
+  next-value [] done is = absurd (no-value [] done refl is)
+  next-value (x ∷ items) done is = is
+
+  pub at-value : (items : List Item) (done : List ℕ) → 0 < length items → IsNext p n levels o items done root
+      → IsAtValue p n levels o items done root
+  at-value [] done some is = absurd (omega (arith, some))
+  at-value (x ∷ items) done some is = is
+
+  pub at-end : (items : List Item) (done : List ℕ) → length items ≡ 0 → IsNext p n levels o items done root → done ≡ whole
+  at-end [] done none is = is
+  at-end (x ∷ items) done none is = absurd (omega (arith, none))
+
+  pub next-end : (items : List Item) (done : List ℕ) → items ≡ [] → done ≡ whole → IsNext p n levels o items done root
+  next-end items done none is = subst (λ us. IsNext p n levels o us done root) (sym none) is
+
+  -- by its number of levels, if there is a value
+  pub next-full : (k : ℕ) (items : List Item) (done : List ℕ) → (0 < length items → o ≡ k) → IsNext p n levels o items done root
+      → IsNext p n levels k items done root
+  next-full k [] done full is = is
+  next-full k (x ∷ items) done full is = subst (λ j. IsAtValue p n levels j (x ∷ items) done root) (full (omega arith)) is
+
+  -- where nothing is open
+  none-left : (first : Bool) (fs : List Frame) (done : List ℕ) → length fs ≡ 0 → done ++ frames_text p n first fs ≡ whole → done ≡ whole
+  none-left first [] done none is = sym (append-nil done) ∙ is
+  none-left first (f ∷ outer) done none is = absurd (omega (arith, none))
+
+  pub ended : (first : Bool) (items : List Item) (done : List ℕ) → o ≡ 0 → IsBetween p n levels o first items done root → done ≡ whole
+  ended first items done none is = none-left first is.frames done (is.number ∙ none) is.printed
+
   -- with nothing beneath its first node
-  after-leaf : (x : Item) (items : List Item) (done : List ℕ) → count_of x ≡ 0 → IsAtValue p n o (x ∷ items) done whole
-      → IsBetween p n o false items (done ++ leaf_text x) whole
+  after-leaf : (x : Item) (items : List Item) (done : List ℕ) → count_of x ≡ 0 → IsAtValue p n levels o (x ∷ items) done root
+      → IsBetween p n levels o false items (done ++ leaf_text x) root
   after-leaf x items done none is =
       let l = is-leaf p (n + length is.frames) x items (frames_listing is.frames) is.value is.listed none in
       record {
@@ -169,68 +228,75 @@ module _ (p : Bool) (n : ℕ) (o : Nesting) (whole : List ℕ) where
             ∙ ap (λ us. done ++ (us ++ frames_text p n false is.frames)) l.printed ∙ is.printed;
       }
 
+  -- with some, so the root nests deeper than what is open
+  pub deeper : (x : Item) (items : List Item) (done : List ℕ) → 0 < count_of x → IsAtValue p n levels o (x ∷ items) done root → o < depth root
+  deeper x items done some is =
+      let c = is-opened p (n + length is.frames) x items (frames_listing is.frames) is.value is.listed some in
+      omega (arith, is.number, is.within, c.deep, positive-depth c.frame)
+
   -- ---- an end
 
-  closed : (q : Nesting) (first : Bool) (items : List Item) (done : List ℕ) (fs : List Frame) → length fs ≡ o.count
-      → AreNested o.ends o.are_objects fs → items ≡ frames_listing fs → done ++ frames_text p n first fs ≡ whole → 0 < o.count
-      → length items ≤ get_or o.ends (o.count - 1) 0 → q.ends ≡ o.ends → q.are_objects ≡ o.are_objects → q.count ≡ o.count - 1
-      → IsBetween p n q false items
-      (done ++ (line p (n + q.count) ++ cond (get_or o.are_objects q.count false) right_brace right_bracket ∷ [])) whole
-  closed q first items done [] number are listed is some few ends kinds count = absurd (omega (arith, number, some))
-  closed q first items done (f ∷ outer) number are listed is some few ends kinds count =
-      let same : q.count ≡ length outer = omega (arith, number, count) in
+  closed : (q : ℕ) (first : Bool) (items : List Item) (done : List ℕ) (fs : List Frame) → length fs ≡ o
+      → AreNested levels (depth root) fs → items ≡ frames_listing fs → done ++ frames_text p n first fs ≡ whole → 0 < o
+      → length items ≤ (get_or levels (o - 1) no_level).end → q ≡ o - 1
+      → IsBetween p n levels q false items
+      (done ++ (line p (n + q) ++ cond (get_or levels (o - 1) no_level).is_object right_brace right_bracket ∷ [])) root
+  closed q first items done [] number are listed is some few count = absurd (omega (arith, number, some))
+  closed q first items done (f ∷ outer) number are listed is some few count =
+      let same : q ≡ length outer = omega (arith, number, count) in
+      let innermost = same-at levels o outer no_level number in
       let none = none-of (frame_listing f) (omega (
         arith,
-        same-at o.ends o.count outer 0 number,
+        ap (λ l. l.end) innermost,
         are.0,
         ap length listed,
         length-append (frame_listing f) (frames_listing outer),
         few,
       )) in
-      let end = ap₂ (λ k b. line p (n + k) ++ cond b right_brace right_bracket ∷ []) same
-      (ap (λ k. get_or o.are_objects k false) same ∙ are.1) ∙ sym (closed-text p (n + length outer) first f none) in
+      let end = ap₂ (λ k b. line p (n + k) ++ cond b right_brace right_bracket ∷ []) same (ap (λ l. l.is_object) innermost ∙ are.1)
+      ∙ sym (closed-text p (n + length outer) first f none) in
       record {
         frames = outer;
         number = sym same;
-        are_nested = subst (λ es. AreNested es q.are_objects outer) (sym ends) (subst (λ ks. AreNested o.ends ks outer) (sym kinds) are.2);
+        are_nested = are.3;
         listed = listed ∙ ap (λ us. us ++ frames_listing outer) none;
         printed = append_assoc done _ (frames_text p n false outer) ∙ ap (λ us. done ++ (us ++ frames_text p n false outer)) end ∙ is;
       }
 
-  pub after-end : (q : Nesting) (first : Bool) (items : List Item) (done : List ℕ) → IsBetween p n o first items done whole → 0 < o.count
-      → length items ≤ get_or o.ends (o.count - 1) 0 → q.ends ≡ o.ends → q.are_objects ≡ o.are_objects → q.count ≡ o.count - 1
-      → IsBetween p n q false items
-      (done ++ (line p (n + q.count) ++ cond (get_or o.are_objects q.count false) right_brace right_bracket ∷ [])) whole
+  pub after-end : (q : ℕ) (first : Bool) (items : List Item) (done : List ℕ) → IsBetween p n levels o first items done root → 0 < o
+      → length items ≤ (get_or levels (o - 1) no_level).end → q ≡ o - 1
+      → IsBetween p n levels q false items
+      (done ++ (line p (n + q) ++ cond (get_or levels (o - 1) no_level).is_object right_brace right_bracket ∷ [])) root
   after-end q first items done is = closed q first items done is.frames is.number is.are_nested is.listed is.printed
 
   -- ---- with nodes
 
   pub element-step : (is_first : Bool) (ns first rest : List Node) (default : Node) (beneath : ℕ) (done : List ℕ) → 0 < length ns
-      → first ≡ take 1 ns → rest ≡ drop 1 ns → beneath ≡ count_of (item_of (get_or first 0 default)) → beneath ≡ 0 → 0 < o.count
-      → get_or o.are_objects (o.count - 1) false ≡ false
-      → get_or o.ends (o.count - 1) 0 < length ns → IsBetween p n o is_first (map item_of ns) done whole
-      → IsBetween p n o false (map item_of rest)
-      (done ++ (cond is_first left_bracket comma ∷ (line p (n + o.count) ++ leaf_text (item_of (get_or first 0 default))))) whole
+      → first ≡ take 1 ns → rest ≡ drop 1 ns → beneath ≡ count_of (item_of (get_or first 0 default)) → beneath ≡ 0 → 0 < o
+      → (get_or levels (o - 1) no_level).is_object ≡ false
+      → (get_or levels (o - 1) no_level).end < length ns → IsBetween p n levels o is_first (map item_of ns) done root
+      → IsBetween p n levels o false (map item_of rest)
+      (done ++ (cond is_first left_bracket comma ∷ (line p (n + o) ++ leaf_text (item_of (get_or first 0 default))))) root
   element-step is_first ns first rest default beneath done some front back sized none open_some kind live is =
       let x = item_of (get_or first 0 default) in
-      let before = cond is_first left_bracket comma ∷ line p (n + o.count) in
+      let before = cond is_first left_bracket comma ∷ line p (n + o) in
       let one = split-first ns first rest default 1 some refl front back in
-      let at = subst (λ us. IsBetween p n o is_first us done whole) one is in
-      let more = subst (λ k. get_or o.ends (o.count - 1) 0 < k) (sym (length-map ns item_of) ∙ ap length one) live in
-      subst (λ us. IsBetween p n o false (map item_of rest) us whole) (append_assoc done before (leaf_text x))
+      let at = subst (λ us. IsBetween p n levels o is_first us done root) one is in
+      let more = subst (λ k. (get_or levels (o - 1) no_level).end < k) (sym (length-map ns item_of) ∙ ap length one) live in
+      subst (λ us. IsBetween p n levels o false (map item_of rest) us root) (append_assoc done before (leaf_text x))
       (after-leaf x (map item_of rest) (done ++ before) (omega (arith, sized, none))
       (element-before is_first (x ∷ map item_of rest) done at open_some kind more))
 
   -- a container that is printed by a call of its own
-  pub record IsDeep (value rest : List Item) (done : List ℕ) : Type 0 where
+  pub record IsApart (value rest : List Item) (done : List ℕ) : Type 0 where
     pub document : Document
     pub listed : value ≡ listing document
-    pub after : IsBetween p n o false rest (done ++ text p document (n + o.count)) whole
+    pub after : IsBetween p n levels o false rest (done ++ text p document (n + o)) root
 
   -- the value's first node, and how many are beneath it
   module _ (ns first rest : List Node) (default : Node) (beneath count : ℕ) (done : List ℕ) (some : 0 < length ns)
       (front : first ≡ take 1 ns) (back : rest ≡ drop 1 ns) (sized : beneath ≡ count_of (item_of (get_or first 0 default)))
-      (least : count ≡ min beneath (length rest)) (is : IsAtValue p n o (map item_of ns) done whole)
+      (least : count ≡ min beneath (length rest)) (is : IsAtValue p n levels o (map item_of ns) done root)
     where
       abbrev x : Item
       x = item_of (get_or first 0 default)
@@ -238,8 +304,8 @@ module _ (p : Bool) (n : ℕ) (o : Nesting) (whole : List ℕ) where
       one : map item_of ns ≡ x ∷ map item_of rest
       one = split-first ns first rest default 1 some refl front back
 
-      at : IsAtValue p n o (x ∷ map item_of rest) done whole
-      at = subst (λ us. IsAtValue p n o us done whole) one is
+      at : IsAtValue p n levels o (x ∷ map item_of rest) done root
+      at = subst (λ us. IsAtValue p n levels o us done root) one is
 
       exact : count ≡ count_of x
       exact = omega (
@@ -250,19 +316,19 @@ module _ (p : Bool) (n : ℕ) (o : Nesting) (whole : List ℕ) where
         least,
       )
 
-      pub leaf-step : count ≡ 0 → IsBetween p n o false (map item_of rest) (done ++ leaf_text x) whole
+      pub leaf-step : count ≡ 0 → IsBetween p n levels o false (map item_of rest) (done ++ leaf_text x) root
       leaf-step none = after-leaf x (map item_of rest) done (sym exact ∙ none) at
 
       opened-at : 0 < count → IsOpened p (n + length at.frames) x (map item_of rest) (frames_listing at.frames) at.value
       opened-at more = is-opened p (n + length at.frames) x (map item_of rest) (frames_listing at.frames) at.value at.listed
           (omega (arith, exact, more))
 
-      pub open-step : (q : Nesting) (end : ℕ) → 0 < count → end ≡ length rest - count → o.count < length o.ends
-          → o.count < length o.are_objects → q.ends ≡ set o.ends o.count end → q.are_objects ≡ set o.are_objects o.count (is_object_item x)
-          → q.count ≡ o.count + 1 → IsBetween p n q true (map item_of rest) (done ++ []) whole
-      open-step q end more at_end room rooms ends kinds counted =
+      pub open-step : (new : List Level) (level : Level) (q : ℕ) → 0 < count → o < length levels → new ≡ set levels o level
+          → level.end ≡ length rest - count → level.is_object ≡ is_object_item x → q ≡ o + 1
+          → IsBetween p n new q true (map item_of rest) (done ++ []) root
+      open-step new level q more room stored at_end kind counted =
           let c = opened-at more in
-          let left : end ≡ length (frames_listing at.frames) = omega (
+          let left : level.end ≡ length (frames_listing at.frames) = omega (
             arith,
             at_end,
             exact,
@@ -271,16 +337,15 @@ module _ (p : Bool) (n : ℕ) (o : Nesting) (whole : List ℕ) where
             ap length c.after,
             length-append (frame_listing c.frame) (frames_listing at.frames),
           ) in
-          let old = nested-more o.ends o.are_objects at.frames o.count end (is_object_item x) (omega (arith, at.number)) at.are_nested in
+          let here = set-here levels o (length at.frames) level no_level room at.number in
           record {
             frames = c.frame ∷ at.frames;
             number = omega (arith, at.number, counted);
-            are_nested = (
-              ap (λ es. get_or es (length at.frames) 0) ends ∙ set-here o.ends o.count (length at.frames) end 0 room at.number ∙ left,
-              ap (λ es. get_or es (length at.frames) false) kinds
-                  ∙ set-here o.are_objects o.count (length at.frames) (is_object_item x) false rooms at.number ∙ c.kind,
-              subst (λ es. AreNested es q.are_objects at.frames) (sym ends)
-                  (subst (λ ks. AreNested (set o.ends o.count end) ks at.frames) (sym kinds) old),
+            are_nested = subst (λ ls. AreNested ls (depth root) (c.frame ∷ at.frames)) (sym stored) (
+              ap (λ l. l.end) here ∙ left,
+              ap (λ l. l.is_object) here ∙ kind ∙ c.kind,
+              omega (arith, at.within, c.deep),
+              nested-more levels (depth root) at.frames o level (omega (arith, at.number)) at.are_nested,
             );
             listed = c.after;
             printed =
@@ -288,9 +353,14 @@ module _ (p : Bool) (n : ℕ) (o : Nesting) (whole : List ℕ) where
                 ∙ ap (λ us. done ++ (us ++ frames_text p n false at.frames)) (sym c.printed) ∙ at.printed;
           }
 
-      pub deep-step : (value others : List Node) → 0 < count → value ≡ take (count + 1) ns → others ≡ drop (count + 1) ns
-          → IsDeep (map item_of value) (map item_of others) done
-      deep-step value others more fronts backs =
+      pub some-beneath : IsDeep levels o (map item_of ns) → 0 < count
+      some-beneath deep =
+          let here : IsDeep levels o (x ∷ map item_of rest) = subst (λ us. IsDeep levels o us) one deep in
+          omega (arith, exact, here.0)
+
+      pub apart-step : (value others : List Node) → 0 < count → value ≡ take (count + 1) ns → others ≡ drop (count + 1) ns
+          → IsApart (map item_of value) (map item_of others) done
+      apart-step value others more fronts backs =
           let d = at.value in
           let size : count + 1 ≡ length (listing d) = omega (arith, exact, (opened-at more).count, ap length (opened-at more).whole) in
           let all = one ∙ at.listed in
@@ -304,10 +374,68 @@ module _ (p : Bool) (n : ℕ) (o : Nesting) (whole : List ℕ) where
               are_nested = at.are_nested;
               listed = ap (map item_of) backs ∙ sym (drop-map item_of (count + 1) ns) ∙ ap₂ (λ k us. drop k us) size all
                   ∙ drop-append_seam (listing d) (frames_listing at.frames);
-              printed = append_assoc done (text p d (n + o.count)) (frames_text p n false at.frames)
+              printed = append_assoc done (text p d (n + o)) (frames_text p n false at.frames)
                   ∙ ap (λ k. done ++ (text p d (n + k) ++ frames_text p n false at.frames)) (sym at.number) ∙ at.printed;
             };
           }
+
+pub is-deep : (levels : List Level) (o : ℕ) (ns first rest : List Node) (default : Node) (beneath count end : ℕ)
+    → 0 < length ns → first ≡ take 1 ns → rest ≡ drop 1 ns → beneath ≡ count_of (item_of (get_or first 0 default))
+    → count ≡ min beneath (length rest) → 0 < count → end ≡ length rest - count → (length levels ≤ o) ⊎ (2 ^ 32 ≤ end)
+    → IsDeep levels o (map item_of ns)
+is-deep levels o ns first rest default beneath count end some front back sized least more at_end lacks =
+    subst (λ us. IsDeep levels o us) (sym (split-first ns first rest default 1 some refl front back))
+    (omega (arith, sized, least, more), by-case lacks)
+  where
+    by-case : (length levels ≤ o) ⊎ (2 ^ 32 ≤ end)
+        → (length levels ≤ o) ⊎ (count_of (item_of (get_or first 0 default)) + 2 ^ 32 ≤ length (map item_of rest))
+    by-case (inl full) = inl full
+    by-case (inr great) = inr (omega (arith, great, at_end, sized, least, length-map rest item_of))
+
+-- for which there is no level, though the root has one
+pub apart-less : (levels : List Level) (o : ℕ) (ns first rest : List Node) (default : Node) (beneath count all : ℕ)
+    → IsDeep levels o (map item_of ns) → 0 < length levels → 0 < length ns → first ≡ take 1 ns → rest ≡ drop 1 ns
+    → beneath ≡ count_of (item_of (get_or first 0 default)) → count ≡ min beneath (length rest) → o + length ns ≤ all → count + 1 < all
+apart-less levels o ns first rest default beneath count all deep has some front back sized least room =
+    let one = split-first ns first rest default 1 some refl front back in
+    by-case (subst (λ us. IsDeep levels o us) one deep).1
+  where
+    size : length ns ≡ suc (length (map item_of rest))
+    size = sym (length-map ns item_of) ∙ ap length (split-first ns first rest default 1 some refl front back)
+
+    by-case : (length levels ≤ o) ⊎ (count_of (item_of (get_or first 0 default)) + 2 ^ 32 ≤ length (map item_of rest)) → count + 1 < all
+    by-case (inl full) = omega (arith, full, has, size, length-map rest item_of, least, room)
+    by-case (inr great) = omega (arith, great, sized, size, length-map rest item_of, least, room)
+
+-- with fewer nodes than an end can have
+pub is-full : (levels : List Level) (o : ℕ) (ns : List Node) → IsDeep levels o (map item_of ns) → 0 < length ns → length ns < 2 ^ 32
+    → length levels ≤ o
+is-full levels o [] deep some few = absurd (omega (arith, some))
+is-full levels o (x ∷ ns) deep some few = by-case deep.1
+  where
+    by-case : (length levels ≤ o) ⊎ (count_of (item_of x) + 2 ^ 32 ≤ length (map item_of ns)) → length levels ≤ o
+    by-case (inl full) = full
+    by-case (inr great) = absurd (omega (arith, great, few, length-map ns item_of))
+
+-- a container for which there is no level is within a root that nests deeper than there are levels
+pub nests-deeper : (p : Bool) (n : ℕ) (levels : List Level) (o : ℕ) (root : Document) (ns : List Node) (done : List ℕ)
+    → IsDeep levels o (map item_of ns) → 0 < length ns → IsAtValue p n levels o (map item_of ns) done root → o < depth root
+nests-deeper p n levels o root [] done deep some at = absurd (omega (arith, some))
+nests-deeper p n levels o root (x ∷ ns) done deep some at = deeper p n levels o root (item_of x) (map item_of ns) done deep.0 at
+
+-- with more levels
+pub at-longer : (p : Bool) (n : ℕ) (levels new : List Level) (o : ℕ) (items : List Item) (done : List ℕ) (root : Document)
+    → o ≤ length levels → ((k : ℕ) → k < length levels → get_or new k no_level ≡ get_or levels k no_level)
+    → IsAtValue p n levels o items done root → IsAtValue p n new o items done root
+at-longer p n levels new o items done root fits longer is = record {
+  value = is.value;
+  frames = is.frames;
+  number = is.number;
+  within = is.within;
+  are_nested = nested-longer levels new (depth root) is.frames (omega (arith, is.number, fits)) longer is.are_nested;
+  listed = is.listed;
+  printed = is.printed;
+}
 
 -- only an object's header is one
 pub no-object : (x : Node) → ((len count : ℕ) → x ≡ nodes.Object len count → ⊥) → is_object_item (item_of x) ≡ false
@@ -317,39 +445,21 @@ no-object (nodes.Decimal s) none = refl
 no-object (nodes.Array len count) none = refl
 no-object (nodes.Object len count) none = absurd (none len count refl)
 
--- ---- the nodes of one value
-
-pub no-document : (ns : List Node) (d : Document) → length ns ≡ 0 → map item_of ns ≡ listing d → ⊥
-no-document ns d none is = omega (arith, positive d, ap length is, length-map ns item_of)
-
-module _ (p : Bool) (n : ℕ) (ns first beneath : List Node) (default : Node) (d : Document) (some : 0 < length ns)
-    (front : first ≡ take 1 ns) (back : beneath ≡ drop 1 ns) (is : map item_of ns ≡ listing d)
-  where
-    abbrev y : Item
-    y = item_of (get_or first 0 default)
-
-    listed : y ∷ map item_of beneath ≡ listing d ++ []
-    listed = sym (split-first ns first beneath default 1 some refl front back) ∙ is ∙ sym (append-nil (listing d))
-
-    pub value-leaf : length beneath ≡ 0 → leaf_text y ≡ text p d n
-    value-leaf none =
-        let few = beneath-within y (map item_of beneath) [] d listed in
-        (is-leaf p n y (map item_of beneath) [] d listed (omega (arith, few, none, length-map beneath item_of))).printed
-
-    pub value-opened : 0 < length beneath → IsOpened p n y (map item_of beneath) [] d
-    value-opened more = by-count (count_of y) refl
-      where
-        by-count : (k : ℕ) → count_of y ≡ k → IsOpened p n y (map item_of beneath) [] d
-        by-count zero none = absurd
-            (omega (arith, more, length-map beneath item_of, ap length (is-leaf p n y (map item_of beneath) [] d listed none).after))
-        by-count (suc k) some_beneath = is-opened p n y (map item_of beneath) [] d listed (omega (arith, some_beneath))
-
 -- ---- what was printed in two steps
 
-pub with-none : (p : Bool) (n : ℕ) (o : Nesting) (first : Bool) (items : List Item) (done whole : List ℕ)
-    → IsBetween p n o first items done whole → IsBetween p n o first items (done ++ []) whole
-with-none p n o first items done whole is = subst (λ us. IsBetween p n o first items us whole) (sym (append-nil done)) is
+pub with-none : (p : Bool) (n : ℕ) (levels : List Level) (o : ℕ) (first : Bool) (items : List Item) (done : List ℕ) (root : Document)
+    → IsBetween p n levels o first items done root → IsBetween p n levels o first items (done ++ []) root
+with-none p n levels o first items done root is =
+    subst (λ us. IsBetween p n levels o first items us root) (sym (append-nil done)) is
 
-pub with-both : (p : Bool) (n : ℕ) (o : Nesting) (first : Bool) (items : List Item) (done xs ys whole : List ℕ)
-    → IsBetween p n o first items ((done ++ xs) ++ ys) whole → IsBetween p n o first items (done ++ (xs ++ ys)) whole
-with-both p n o first items done xs ys whole is = subst (λ us. IsBetween p n o first items us whole) (append_assoc done xs ys) is
+pub with-both : (p : Bool) (n : ℕ) (levels : List Level) (o : ℕ) (first : Bool) (items : List Item) (done xs ys : List ℕ) (root : Document)
+    → IsBetween p n levels o first items ((done ++ xs) ++ ys) root → IsBetween p n levels o first items (done ++ (xs ++ ys)) root
+with-both p n levels o first items done xs ys root is =
+    subst (λ us. IsBetween p n levels o first items us root) (append_assoc done xs ys) is
+
+pub three : (a b c d : List ℕ) → ((a ++ b) ++ c) ++ d ≡ a ++ ((b ++ c) ++ d)
+three a b c d = ap (λ us. us ++ d) (append_assoc a b c) ∙ append_assoc a (b ++ c) d
+
+pub next-both : (p : Bool) (n : ℕ) (levels : List Level) (o : ℕ) (items : List Item) (done xs ys : List ℕ) (root : Document)
+    → IsNext p n levels o items ((done ++ xs) ++ ys) root → IsNext p n levels o items (done ++ (xs ++ ys)) root
+next-both p n levels o items done xs ys root is = subst (λ us. IsNext p n levels o items us root) (append_assoc done xs ys) is

@@ -6,13 +6,14 @@ use Rattle.simd_json_parts.proofs.Documents.Fronts.{positive}
 use Rattle.simd_json_parts.proofs.Documents.Integers.{of-integer_node}
 use Rattle.simd_json_parts.specs.Document.{Document, null, boolean, integer, decimal, string, array, object, no_elements, element}
 use Rattle.simd_json_parts.specs.Document.{no_members, member}
+use Rattle.simd_json_parts.specs.Limits.{depth}
 use Rattle.simd_json_parts.specs.Listing.{listing, elements_listing}
 use Rattle.simd_json_parts.specs.Nodes.{Item, static_item, object_item, item_of}
 use Rattle.simd_json_parts.specs.Headers.{count_of}
 use Rattle.simd_json_parts.specs.Integers.{number_of, integer_node}
 use Rattle.simd_json_parts.specs.declared.node.Node.{Node}
 use Rattle.simd_json_parts.specs.declared.node.StaticNode.TheVariants as fixed
-use Rattle.simd_json_print.specs.Frames.{Frame, elements_left, members_left, has_members, frame_listing, frame_text}
+use Rattle.simd_json_print.specs.Frames.{Frame, elements_left, members_left, has_members, frame_depth, frame_listing, frame_text}
 use Rattle.simd_json_print.specs.Layout.{static_text, leaf_text}
 use Rattle.simd_json_parts.specs.Printed.{text}
 
@@ -72,17 +73,19 @@ pub record IsOpened (p : Bool) (n : ℕ) (x : Item) (items rest : List Item) (d 
   pub count : count_of x ≡ length (frame_listing frame)
   pub after : items ≡ frame_listing frame ++ rest
   pub whole : listing d ≡ x ∷ frame_listing frame
+  pub deep : depth d ≡ frame_depth frame
   pub printed : text p d n ≡ frame_text p n true frame
 
 opened : (p : Bool) (n : ℕ) (x y : Item) (items rest : List Item) (d : Document) (f : Frame) → x ∷ items ≡ y ∷ (frame_listing f ++ rest)
     → is_object_item y ≡ has_members f → count_of y ≡ length (frame_listing f) → listing d ≡ y ∷ frame_listing f
-    → text p d n ≡ frame_text p n true f → IsOpened p n x items rest d
-opened p n x y items rest d f is kind count whole printed = record {
+    → depth d ≡ frame_depth f → text p d n ≡ frame_text p n true f → IsOpened p n x items rest d
+opened p n x y items rest d f is kind count whole deep printed = record {
   frame = f;
   kind = ap is_object_item (same-first x y items _ is) ∙ kind;
   count = ap count_of (same-first x y items _ is) ∙ count;
   after = same-rest x y items _ is;
   whole = whole ∙ ap (λ z. z ∷ frame_listing f) (sym (same-first x y items _ is));
+  deep = deep;
   printed = printed;
 }
 
@@ -99,9 +102,13 @@ is-opened p n x items rest (string t) is some = absurd (no-container x _ items r
 is-opened p n x items rest (array no_elements) is some = absurd (no-container x _ items rest is refl some)
 is-opened p n x items rest (object no_members) is some = absurd (no-container x _ items rest is refl some)
 is-opened p n x items rest (array (element d ds)) is some =
-    opened p n x _ items rest _ (elements_left (element d ds)) is refl refl refl refl
+    opened p n x _ items rest _ (elements_left (element d ds)) is refl refl refl refl refl
 is-opened p n x items rest (object (member k d ms)) is some =
-    opened p n x _ items rest _ (members_left (member k d ms)) is refl refl refl refl
+    opened p n x _ items rest _ (members_left (member k d ms)) is refl refl refl refl refl
+
+pub positive-depth : (f : Frame) → 0 < frame_depth f
+positive-depth (elements_left ds) = omega arith
+positive-depth (members_left ms) = omega arith
 
 -- no more than there are
 pub beneath-within : (x : Item) (items rest : List Item) (d : Document) → x ∷ items ≡ listing d ++ rest → count_of x ≤ length items

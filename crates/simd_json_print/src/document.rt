@@ -1,8 +1,8 @@
 //! The printed text of a document, from its nodes: compact, or pretty with a line for each member.
-//! An open container takes about 11 bytes of stack, at most 672 for 64. That the stack suffices is
-//! not proved.
-ghost use Rattle.std.specs.Prelude.{◌≡◌, ◌<◌, ◌≤◌, ◌+◌, ◌++◌, ℕ, List, length, map, take, OnOk};
-ghost use Rattle.std.specs.Prelude.{OnErr};
+//! An open container takes 8 bytes of the levels that are lent, or else about 11 bytes of stack.
+//! That the stack suffices is not proved.
+ghost use Rattle.std.specs.Prelude.{◌≡◌, ◌<◌, ◌≤◌, ◌+◌, ◌++◌, ℕ, List, length, map, take};
+ghost use Rattle.std.specs.Prelude.{OnErr, OnOk};
 ghost use Rattle.std.specs.Vec.{vec_capacity};
 ghost use Rattle.std.specs.Io.KnownBytes.{Appends};
 ghost use Rattle.simd_json_parts.specs.Document.{Document};
@@ -16,7 +16,8 @@ mod scalar;
 mod walk;
 
 use crate::document::growing::Growing;
-use crate::document::walk::put_value;
+pub use crate::document::walk::Level;
+use crate::document::walk::{put_value, put_value_within};
 use crate::text::{Target, Text};
 use simd_json_parts::node::Node;
 use std::alloc::{AllocError, Allocator};
@@ -37,6 +38,20 @@ pub fn put_compact<T: Target, const SIZE: usize>(out: &mut Text<'_, T, SIZE>, no
     put_value::<T, SIZE, false>(out, nodes, 0);
 }
 
+/// Puts the text of [`put_compact`]. What is open is kept in the levels, and what is nested deeper
+/// than these on the stack.
+pub fn put_compact_within<T: Target, const SIZE: usize>(
+    out: &mut Text<'_, T, SIZE>,
+    nodes: &[Node<'_>],
+    levels: &mut [Level],
+)
+    ensures kept { AddsSome T.state out.old out.new }
+    ensures given { (d : Document) → map item_of nodes.now ≡ listing d
+        → Adds T.state out.old out.new (compact d) }
+{
+    put_within::<T, SIZE, false>(out, nodes, levels);
+}
+
 /// Puts the pretty text of the document that the nodes list.
 pub fn put_pretty<T: Target, const SIZE: usize>(out: &mut Text<'_, T, SIZE>, nodes: &[Node<'_>])
     ensures kept { AddsSome T.state out.old out.new }
@@ -44,6 +59,20 @@ pub fn put_pretty<T: Target, const SIZE: usize>(out: &mut Text<'_, T, SIZE>, nod
         → Adds T.state out.old out.new (pretty d) }
 {
     put_value::<T, SIZE, true>(out, nodes, 0);
+}
+
+/// Puts the text of [`put_pretty`]. What is open is kept in the levels, and what is nested deeper
+/// than these on the stack.
+pub fn put_pretty_within<T: Target, const SIZE: usize>(
+    out: &mut Text<'_, T, SIZE>,
+    nodes: &[Node<'_>],
+    levels: &mut [Level],
+)
+    ensures kept { AddsSome T.state out.old out.new }
+    ensures given { (d : Document) → map item_of nodes.now ≡ listing d
+        → Adds T.state out.old out.new (pretty d) }
+{
+    put_within::<T, SIZE, true>(out, nodes, levels);
 }
 
 /// Appends the compact text of the document that the nodes list.
@@ -84,6 +113,23 @@ pub fn append_pretty<A: Allocator>(
     ensures capacity { vec_capacity out.old ≤ vec_capacity out.new }
 {
     append::<A, true>(out, nodes)
+}
+
+// Puts the text, with levels that are lent.
+fn put_within<T: Target, const SIZE: usize, const PRETTY: bool>(
+    out: &mut Text<'_, T, SIZE>,
+    nodes: &[Node<'_>],
+    levels: &mut [Level],
+)
+    ensures kept { AddsSome T.state out.old out.new }
+    ensures given { (d : Document) → map item_of nodes.now ≡ listing d
+        → Adds T.state out.old out.new (text PRETTY d 0) }
+{
+    if levels.is_empty() {
+        put_value::<T, SIZE, PRETTY>(out, nodes, 0);
+    } else {
+        put_value_within::<T, SIZE, PRETTY>(out, nodes, 0, levels);
+    }
 }
 
 // Appends the text of the document that the nodes list.

@@ -11,7 +11,7 @@ returns-in-Ok g c =
     record {
       appended = λ d is.
           let all = is-appended put.result _ _ old put.new.target (text (not (nat_eq g.row.PRETTY 0)) d 0)
-              (put.ensures.given d is) in
+          (put.ensures.given d is) in
           search rules;
       lacking = λ d is. search rules;
       begun = λ d is. search rules;
@@ -28,7 +28,7 @@ returns-in-Err g c =
       appended = λ d is. search rules;
       lacking = λ d is.
           let all = is-appended put.result _ _ old put.new.target (text (not (nat_eq g.row.PRETTY 0)) d 0)
-              (put.ensures.given d is) in
+          (put.ensures.given d is) in
           search rules;
       begun = λ d is.
           let all = is-appended put.result _ _ old put.new.target (text (not (nat_eq g.row.PRETTY 0)) d 0)
