@@ -216,6 +216,24 @@ wanted 'a closed report' 0 '' ''
 closed '{"k":1}\n[1,]\n'
 wanted 'a closed report, and a rejected line' 1 '' "line 2: InternalError at character 3 (']')\n"
 
+# slowly NAME STATUS OUT ERR ARGUMENTS..: what the program must leave of three lines that come a byte at a time, from standard
+# input and from the same pipe as a file.
+slowly() {
+    name=$1 wanted_status=$2 wanted_out=$3 wanted_err=$4
+    shift 4
+    for file in - /dev/stdin; do
+        { for byte in '{' '"' k '"' : 1 '}' '\n' '[' 1 , ']' '\n' '{' '"' k '"' : 2 '}'; do
+            printf "$byte"
+            sleep 0.01
+        done; } | "$program" "$@" "$file" > "$room/out" 2> "$room/err"
+        status=$?
+        sed "s|^$file|FILE|" "$room/err" > "$room/short"
+        mv "$room/short" "$room/err"
+        wanted "$name, $file" "$wanted_status" "$wanted_out" "$wanted_err"
+    done
+}
+slowly 'a slow pipe, counted' 1 '1 !\n1 1\n1 2\n' "FILE: line 2: InternalError at character 3 (']')\n" k
+
 # Fields of lines.
 program=${3:-$(dirname "$0")/../crates/jpick_main/out/jpick_main}
 [ -x "$program" ] || { echo "$program is not there: run make test" >&2; exit 1; }
@@ -262,6 +280,8 @@ status=$?
 sed "s|$room/||; s|: No such.*||" "$room/err" > "$room/short"
 mv "$room/short" "$room/err"
 wanted 'a file that is not there' 3 '1\n1\n' 'jpick: missing\n'
+
+slowly 'a slow pipe, fields' 1 '1\n2\n' 'FILE:2:4: expected a value, found `]`\n' /k --
 
 # A reader that goes away before all is written: more than a pipe holds.
 awk 'BEGIN { for (i = 0; i < 100000; i++) print "[12345]" }' > "$room/many"

@@ -1,3 +1,4 @@
+pub mod Colors
 pub mod Endings
 pub mod Excerpts
 pub mod Failures

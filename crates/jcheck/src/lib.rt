@@ -4,7 +4,7 @@
 //! - [`check_lines`]: of each line of what a reader gives.
 //! - [`check_each`]: of files one after another; the worst that one of them [`Ended`] with.
 //! - [`Failure`]: why a check ended before the end of its input.
-//! - [`asked`]: what the program's arguments ask for.
+//! - [`asked`]: what the program's arguments ask for; [`is_colored`]: whether the caret is red.
 //!
 //! ```
 //! use jcheck::{Checker, Failure, Style, check_document};
@@ -36,6 +36,7 @@ mod failure;
 mod lines;
 mod options;
 mod report;
+mod terminal;
 
 pub use checker::Checker;
 pub use excerpt::Style;
@@ -43,3 +44,4 @@ pub use failure::Failure;
 pub use lines::check_lines;
 pub use options::{Options, asked};
 pub use report::{Ended, check_document, check_each, is_closed};
+pub use terminal::is_colored;

@@ -5,9 +5,9 @@
 
 use jcheck::{
     Checker, Ended, Failure, Options, Style, asked, check_document, check_each, check_lines,
+    is_colored,
 };
 use jsonl::{Channel, arguments, help_status};
-use std::env::VarError;
 use std::io::{IsTerminal, Read};
 use std::process::ExitCode;
 use std::{env, fs, io};
@@ -45,21 +45,16 @@ fn terminal_width(rt: &HostRuntime) -> usize {
     }
 }
 
-// Whether standard output is a terminal, and `NO_COLOR` is empty or not set.
-fn has_colors(rt: &HostRuntime) -> bool {
-    let is_rejected = match env::var(rt, "NO_COLOR") {
-        Ok(value) => !value.is_empty(),
-        Err(e) => e != VarError::NotPresent,
-    };
-    rt.stdout().is_terminal() && !is_rejected
-}
-
 fn check_files(rt: &HostRuntime, options: &Options<'_>) -> Ended {
     let mut checker = Checker::new(rt.alloc(), options.depth());
     let has_lines = options.has_lines();
     let style = Style {
         width: terminal_width(rt),
-        is_colored: options.color().unwrap_or(has_colors(rt)),
+        is_colored: is_colored(
+            options.color(),
+            &env::var(rt, "NO_COLOR"),
+            rt.stdout().is_terminal(),
+        ),
     };
     check_each(
         |file| {

@@ -1,4 +1,5 @@
 pub mod Failures
 pub mod Lines
 pub mod Ports
+pub mod Sources
 pub mod Statuses

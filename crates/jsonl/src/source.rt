@@ -1,5 +1,8 @@
 //! A file or standard input, by its name.
+ghost use Rattle.std.specs.Prelude.{◌≡◌, ◌||◌, is_err, is_some};
 ghost use Rattle.std.specs.Io.{ReadsAtMost};
+ghost use Rattle.std.specs.Io.KnownBytes.{ReadConsumes};
+ghost use Rattle.jsonl.specs.Sources.{left_in, nothing_known};
 
 use std::fs::File;
 use std::io::{self, Read};
@@ -9,16 +12,8 @@ use std::io::{self, Read};
 pub struct Source<'a, I> {
     rt: &'a HostRuntime,
     name: &'a str,
-    state: State<I>,
+    state: State<File, I>,
     fault: Option<io::Error>,
-}
-
-#[derive(Drop)]
-enum State<I> {
-    Unopened,
-    Standard(I),
-    Open(File),
-    Ended,
 }
 
 impl<'a, I: Read + Drop> Source<'a, I> {
@@ -37,37 +32,39 @@ impl<'a, I: Read + Drop> Source<'a, I> {
     }
 
     /// The name, and why it can't be read.
-    pub fn fault(&self) -> Option<(&'a str, &io::Error)> {
+    pub fn fault(&self) -> Option<(&'a str, &io::Error)>
+        ensures { is_some result ≡ is_some self.now.fault }
+    {
         match &self.fault {
             Some(e) => Some((self.name, e)),
             None => None,
         }
     }
 
-    fn read_some(&mut self, buf: &mut [u8]) -> io::Result<usize>
-        ensures { ReadsAtMost result buf.new }
+    // Opens the file at the first read.
+    fn open_and_read(&mut self, buf: &mut [u8]) -> io::Result<usize>
+        ensures bound { ReadsAtMost result buf.new }
+        ensures bytes { ReadConsumes (left_in nothing_known I.remaining self.old.state)
+            (left_in nothing_known I.remaining self.new.state) result buf.new }
+        ensures fault { self.new.fault ≡ self.old.fault }
     {
         if let State::Unopened = self.state {
             self.state = State::Open(File::open(self.rt, self.name)?);
         }
-        let count = match &mut self.state {
-            State::Standard(standard) => standard.read(buf)?,
-            State::Open(file) => file.read(buf)?,
-            _ => 0,
-        };
-        if count == 0 {
-            self.state = State::Ended;
-        }
-        Ok(count)
+        self.state.read(buf)
     }
 }
 
 impl<I: Read + Drop> Read for Source<'_, I> {
-    fn read(&mut self, buf: &mut [u8]) -> io::Result<usize> {
-        if buf.is_empty() {
-            return Ok(0);
-        }
-        match self.read_some(buf) {
+    ghost remaining = { λ s. left_in nothing_known I.remaining s.state };
+
+    fn read(&mut self, buf: &mut [u8]) -> io::Result<usize>
+        ensures bound { ReadsAtMost result buf.new }
+        ensures bytes { ReadConsumes (left_in nothing_known I.remaining self.old.state)
+            (left_in nothing_known I.remaining self.new.state) result buf.new }
+        ensures fault { is_some self.new.fault ≡ (is_some self.old.fault || is_err result) }
+    {
+        match self.open_and_read(buf) {
             Ok(count) => Ok(count),
             Err(e) => {
                 let kind = e.kind();
@@ -75,5 +72,33 @@ impl<I: Read + Drop> Read for Source<'_, I> {
                 Err(io::Error::from(kind))
             }
         }
+    }
+}
+
+// What is read.
+#[derive(Drop)]
+enum State<F, I> {
+    Unopened,
+    Standard(I),
+    Open(F),
+    Ended,
+}
+
+impl<F: Read + Drop, I: Read + Drop> State<F, I> {
+    // Reads some bytes, as `Read::read` does, and closes what has none left.
+    fn read(&mut self, buf: &mut [u8]) -> io::Result<usize>
+        ensures bound { ReadsAtMost result buf.new }
+        ensures bytes { ReadConsumes (left_in F.remaining I.remaining self.old)
+            (left_in F.remaining I.remaining self.new) result buf.new }
+    {
+        let count = match self {
+            State::Standard(standard) => standard.read(buf)?,
+            State::Open(file) => file.read(buf)?,
+            _ => 0,
+        };
+        if count == 0 && !buf.is_empty() {
+            *self = State::Ended;
+        }
+        Ok(count)
     }
 }

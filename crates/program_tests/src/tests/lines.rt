@@ -1,7 +1,7 @@
 //! The lines of a reader, and how a run over them ends.
 use crate::tests::{Blocks, Tested, in_blocks};
-use jsonl::{Channel, Failure, Lines, Step, ending};
-use std::io::ErrorKind;
+use jsonl::{Channel, Failure, Lines, Source, Step, ending};
+use std::io::{ErrorKind, Read};
 
 // An input, and its lines, of at most 3 bytes each: of longer ones the first 4.
 const CUT: [(&[u8], &[&[u8]]); 5] = [
@@ -36,6 +36,38 @@ fn lines_are_cut(rt: HostRuntime) -> Tested {
             assert_eq!(rt; count, wanted.len());
         }
     }
+    Ok(())
+}
+
+// Standard input gives its bytes a few at a time: none of them is taken for the last.
+#[test]
+fn sources_give_all_bytes(rt: HostRuntime) -> Tested {
+    let input = b"{\"k\":1}\n[1,]\n{\"k\":2}".as_slice();
+    for size in 1..24 {
+        let mut source = Source::new(&rt, in_blocks(input, size), "-");
+        let mut read = Vec::new(rt.alloc());
+        source.read_to_end(&mut read)?;
+        assert_eq!(rt; read.as_slice(), input);
+        assert_eq!(rt; source.read(&mut [0; 8])?, 0);
+        assert!(rt; source.fault().is_none());
+    }
+    Ok(())
+}
+
+// A read that fails is kept, with the name.
+#[test]
+fn sources_keep_their_fault(rt: HostRuntime) -> Tested {
+    let standard = Blocks {
+        rest: b"a",
+        size: 1,
+        fault: Some(ErrorKind::StorageFull),
+    };
+    let mut source = Source::new(&rt, standard, "-");
+    assert_eq!(rt; source.read(&mut [0; 8])?, 1);
+    assert!(rt; source.fault().is_none());
+    assert!(rt; source.read(&mut [0; 8]).is_err());
+    let kept = source.fault().map(|(name, e)| (name, e.kind()));
+    assert_eq!(rt; kept, Some(("-", ErrorKind::StorageFull)));
     Ok(())
 }
 

@@ -1,7 +1,8 @@
 // Documents, how their lines are cut, and how checks of several files end.
 use super::{BLANK, Form, MORE, OPEN, Report, VALUE, assert_stopped, assert_written, plain};
 use crate::tests::Tested;
-use jcheck::{Ended, Failure, Style, check_each};
+use jcheck::{Ended, Failure, Style, check_each, is_colored};
+use std::env::VarError;
 use std::io::{self, ErrorKind};
 
 const REJECTED: [(&[u8], &[Report]); 15] = [
@@ -226,6 +227,30 @@ fn files_are_checked_in_turn(rt: HostRuntime) {
     assert_eq!(rt; checked([unread, full, Ok(false)]), (3, 3));
     assert_eq!(rt; checked([Ok(true), closed, missing]), (2, 1));
     assert_eq!(rt; checked([missing, closed, Ok(true)]), (2, 3));
+}
+
+// As the arguments ask, else on a terminal: without `NO_COLOR`, with an empty one, with a word, and
+// with one that can't be read.
+#[test]
+fn carets_are_red_on_terminals(rt: HostRuntime) -> Tested {
+    let words = [
+        Err(VarError::NotPresent),
+        Ok(String::new(rt.alloc())),
+        Ok(String::from_str(rt.alloc(), "0")?),
+        Err(VarError::NotUnicode),
+    ];
+    let rows = [
+        (Some(true), false, [true; 4]),
+        (Some(false), true, [false; 4]),
+        (None, false, [false; 4]),
+        (None, true, [true, true, false, false]),
+    ];
+    for (asked, is_terminal, wanted) in rows {
+        for (word, is_red) in words.iter().zip(wanted.iter()) {
+            assert_eq!(rt; is_colored(asked, word, is_terminal), *is_red);
+        }
+    }
+    Ok(())
 }
 
 // A failure names the input or the output, and is printed as its error.
