@@ -1,8 +1,9 @@
 //! The entry points.
-ghost use Rattle.std.specs.Prelude.{◌≡◌, ◌≤◌, ◌<◌, ℕ, length, Ok, IfOk, OnOk, OnErr};
+ghost use Rattle.std.specs.Prelude.{◌≡◌, ◌≤◌, ◌<◌, ℕ, length, OnOk, OnErr, IfErr};
+ghost use Rattle.std.specs.Result.{result_ok};
 ghost use Rattle.simd_json_check.specs.Capacities.{default_max_depth};
 ghost use Rattle.simd_json.specs.Reserved.{IsReserved};
-ghost use Rattle.simd_json_serde.specs.Outcomes.{IsRead, IsLate, HasParseMemory};
+ghost use Rattle.simd_json_serde.specs.Outcomes.{IsRead, IsLate, IsOf, HasParseMemory};
 
 use crate::error::{Error, Fault, Mismatch};
 use crate::node_reader::NodeReader;
@@ -245,7 +246,8 @@ pub(crate) fn located<T>(
     reader: &NodeReader<'_, '_>,
 ) -> Result<T, Error>
     ensures late { IsLate result }
-    ensures same { IfOk result (λ value. read ≡ Ok value) }
+    ensures same { result_ok result ≡ result_ok read }
+    ensures kind { IfErr read (λ fault. IfErr result (IsOf fault.kind)) }
 {
     match read {
         Ok(value) => Ok(value),
