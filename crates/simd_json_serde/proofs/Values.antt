@@ -1,13 +1,13 @@
 -- The nodes of a value that stands at a place.
 use Rattle.std.proofs.Common.{◌≡◌, ℕ, suc, ◌+◌, ◌<◌, List, ◌∷◌, ◌++◌, map, drop, drop-cons, get_or, length}
-use Rattle.std.proofs.Common.{slice_get, Some, sym, ap, ◌∙◌, arith}
+use Rattle.std.proofs.Common.{slice_get, Some, sym, ap, ◌∙◌, arith, [], Result, Ok, Err, OnOk}
 use Rattle.std.proofs.lemmas.Grind.{common_steps}
 use Rattle.std.proofs.lemmas.Option.{slice_get_within, get_or_from_slice_get}
 use Rattle.simd_json_parts.specs.Document.{Document, null, boolean, integer, decimal, string, array, object}
 use Rattle.simd_json_parts.specs.Listing.{listing}
 use Rattle.simd_json_parts.specs.Nodes.{Item, item_of}
 use Rattle.simd_json_parts.specs.declared.node.Node.{Node}
-use Rattle.simd_json_serde.specs.Steps.{nodes_beneath}
+use Rattle.simd_json_serde.specs.Steps.{Place, IsTaken, Opens, nodes_beneath}
 
 -- a listing's first node says how many follow it
 beneath_first : (d : Document) (i : Item) (rest others : List Item) → listing d ++ rest ≡ i ∷ others →
@@ -28,3 +28,18 @@ stands_beneath ns at d n rest got h =
     let read : get_or ns at n ≡ n = get_or_from_slice_get ns at n n got in
     let cut : drop at ns ≡ n ∷ drop (suc at) ns = drop-cons ns at n within ∙ ap (λ x. x ∷ drop (suc at) ns) read in
     beneath_first d (item_of n) rest (map item_of (drop (suc at) ns)) (sym h ∙ ap (map item_of) cut)
+
+-- a header is taken, and its container entered
+pub opened : {E : Type 0} (r : Result Unit E) (header : ℕ → ℕ → Item) (old mid new : Place) (n : Node) (len count : ℕ) → IsTaken old n mid
+    → item_of n ≡ header len count → OnOk r (new ≡ record mid { end = mid.at + count; outer = mid.outer ++ mid.end ∷ [] })
+    → OnOk r (Opens old header new)
+opened (Ok u) header old mid new n len count taken is entered = (
+  n,
+  len,
+  count,
+  taken.0,
+  taken.1,
+  is,
+  entered ∙ ap (λ (m : Place). record m { end = m.at + count; outer = m.outer ++ m.end ∷ [] }) taken.2,
+)
+opened (Err e) header old mid new n len count taken is entered = tt

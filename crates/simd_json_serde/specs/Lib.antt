@@ -1,5 +1,7 @@
 pub mod Steps
 pub mod Places
+pub mod Ahead
+pub mod Faults
 pub mod Outcomes
 pub mod Kept
 pub mod Written

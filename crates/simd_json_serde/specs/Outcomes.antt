@@ -1,5 +1,5 @@
 -- What a typed read of bytes returns.
-use Rattle.std.specs.Prelude.{◌⊎◌, ℕ, List, Result, Ok, Err}
+use Rattle.std.specs.Prelude.{◌≡◌, ◌⊎◌, ℕ, List, Result, Ok, Err}
 use Rattle.simd_json_parts.specs.Document.{Document}
 use Rattle.simd_json_parts.specs.Grammar.{Denotes}
 use Rattle.simd_json_parts.specs.Limits.{WithinLimits}
@@ -7,6 +7,8 @@ use Rattle.simd_json_check.specs.Capacities.{IsOutOfMemory}
 use Rattle.simd_json.specs.Parsed.{IsRejected}
 use Rattle.simd_json_serde.specs.declared.error.Error.{Error}
 use Rattle.simd_json_serde.specs.declared.error.Error.TheVariants.{Parse, Mismatch}
+use Rattle.simd_json_serde.specs.declared.error.MismatchKind.{MismatchKind}
+use Rattle.simd_json_serde.specs.declared.error.MismatchKind.TheVariants.{OutOfMemory}
 
 -- the bytes are a document within the limits
 abbrev pub IsDocument : List ℕ → ℕ → Type 0
@@ -24,9 +26,14 @@ IsLate (Ok value) = Unit {0}
 IsLate (Err (Mismatch m)) = Unit {0}
 IsLate (Err (Parse e)) = ⊥
 
-abbrev pub IsMismatch : Error → Type 0
-IsMismatch (Mismatch m) = Unit {0}
-IsMismatch (Parse e) = ⊥
+-- a mismatch of this kind, or of memory
+abbrev pub IsOf : MismatchKind → Error → Type 0
+IsOf kind (Mismatch m) = (m.fault.kind ≡ kind) ⊎ (m.fault.kind ≡ OutOfMemory)
+IsOf kind (Parse e) = ⊥
+
+abbrev pub IsNoMemory : Error → Type 0
+IsNoMemory (Mismatch m) = m.fault.kind ≡ OutOfMemory
+IsNoMemory (Parse e) = ⊥
 
 -- no allocation of the parse failed
 abbrev pub HasParseMemory : {T : Type 0} → Result T Error → Type 0

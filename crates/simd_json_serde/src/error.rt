@@ -114,9 +114,17 @@ impl Mismatch {
     pub(crate) fn no_memory(alloc: Global) -> Mismatch
         ensures { result.fault.kind ≡ MismatchKind.OutOfMemory }
     {
+        Mismatch::whole(alloc, MismatchKind::OutOfMemory)
+    }
+
+    // Of the value that was read, as a whole.
+    #[cold]
+    pub(crate) fn whole(alloc: Global, kind: MismatchKind) -> Mismatch
+        ensures { result.fault.kind ≡ kind }
+    {
         Mismatch {
             fault: Fault {
-                kind: MismatchKind::OutOfMemory,
+                kind,
                 node: 0,
                 depth: 0,
             },
@@ -204,12 +212,19 @@ pub enum Error {
 }
 
 impl Error {
-    ghost use Rattle.simd_json_serde.specs.Outcomes.{IsMismatch};
+    ghost use Rattle.simd_json_serde.specs.Outcomes.{IsNoMemory, IsOf};
 
     pub(crate) fn no_memory(alloc: Global) -> Error
-        ensures { IsMismatch result }
+        ensures { IsNoMemory result }
     {
         Error::Mismatch(Mismatch::no_memory(alloc))
+    }
+
+    // That an integer that was read does not fit its type.
+    pub(crate) fn unfit(alloc: Global) -> Error
+        ensures { IsOf MismatchKind.InvalidValue result }
+    {
+        Error::Mismatch(Mismatch::whole(alloc, MismatchKind::InvalidValue))
     }
 }
 

@@ -1,5 +1,18 @@
 //! The steps of a read.
-ghost use Rattle.std.specs.Prelude.{◌≡◌, ◌+◌, false, length, slice_get, take, OnOk};
+ghost use Rattle.std.specs.Prelude.{◌≡◌, ◌≢◌, ◌⊎◌, ◌↔◌, ◌+◌, ℕ, true, false, length, slice_get};
+ghost use Rattle.std.specs.Prelude.{take, nat_lt, is_some, IsTrue, MatchBool, MatchOption};
+ghost use Rattle.std.specs.Prelude.{Some, None, IfOk, IfErr, OnOk, OnErr, encode_utf8, string_bytes};
+ghost use Rattle.std.specs.Result.{result_ok};
+ghost use Rattle.std.specs.Char.{IsScalar};
+ghost use Rattle.std.specs.Float.{binary32, binary64};
+ghost use Rattle.serde.specs.Event.{boolean, signed as signed_event, unsigned as unsigned_event};
+ghost use Rattle.serde.specs.Event.{single, double, character, text as text_event};
+ghost use Rattle.serde.specs.Event.{nothing, seq_begins, seq_ends, map_begins, map_ends};
+ghost use Rattle.serde.specs.Event.{key_begins};
+ghost use Rattle.simd_json_serde.specs.Ahead.{ahead, truth, signed, unsigned, float, text};
+ghost use Rattle.simd_json_serde.specs.Ahead.{kind_in, is_null, array_count, object_count};
+ghost use Rattle.simd_json_serde.specs.Ahead.{CanEnter, CanSkip, IsLeft};
+ghost use Rattle.simd_json_serde.specs.Faults.{fault_at, length_fault, IsFull};
 ghost use Rattle.simd_json_parts.specs.Document.{Document};
 ghost use Rattle.simd_json_parts.specs.Listing.{listing};
 ghost use Rattle.simd_json_parts.specs.Nodes.{item_of};
@@ -27,7 +40,11 @@ impl<'n, 'i> Format for NodeReader<'n, 'i> {
     ghost stays = { λ old new. place new ≡ place old };
 
     #[inline(always)]
-    fn bool(&mut self, _input: &[u8]) -> Result<bool, Fault> {
+    fn bool(&mut self, _input: &[u8]) -> Result<bool, Fault>
+        ensures given { IfOk result (λ v. Reads (place self.old) (boolean v) (place self.new)) }
+        ensures exact { self.old.at_key ≡ false
+            → result_ok result ≡ ahead truth (place self.old) }
+    {
         let at_key = self.at_key;
         match self.take()? {
             Node::Static(StaticNode::Bool(b)) => Ok(b),
@@ -38,14 +55,17 @@ impl<'n, 'i> Format for NodeReader<'n, 'i> {
     }
 
     #[inline(always)]
-    fn i64(&mut self, _input: &[u8]) -> Result<i64, Fault> {
+    fn i64(&mut self, _input: &[u8]) -> Result<i64, Fault>
+        ensures given { IfOk result (λ v. Reads (place self.old) (signed_event v) (place self.new)) }
+        ensures exact { self.old.at_key ≡ false
+            → result_ok result ≡ ahead (signed 64) (place self.old) }
+    {
         let at_key = self.at_key;
         match self.take()? {
             Node::Static(StaticNode::I64(n)) => Ok(n),
-            Node::Static(StaticNode::U64(n)) if n < 1 << 63 => Ok(n as i64),
-            Node::Static(StaticNode::U64(_) | StaticNode::I128(_) | StaticNode::U128(_)) => {
-                Err(self.fault(MismatchKind::InvalidValue))
-            }
+            Node::Static(StaticNode::U64(n)) => self.fitting(i64::try_from(n).ok()),
+            Node::Static(StaticNode::I128(n)) => self.fitting(i64::try_from(n).ok()),
+            Node::Static(StaticNode::U128(n)) => self.fitting(i64::try_from(n).ok()),
             Node::String(key) if at_key && is_integer_key(key) => match key.parse::<i64>() {
                 Ok(n) => Ok(n),
                 Err(_) => Err(self.fault(MismatchKind::InvalidValue)),
@@ -55,14 +75,17 @@ impl<'n, 'i> Format for NodeReader<'n, 'i> {
     }
 
     #[inline(always)]
-    fn u64(&mut self, _input: &[u8]) -> Result<u64, Fault> {
+    fn u64(&mut self, _input: &[u8]) -> Result<u64, Fault>
+        ensures given { IfOk result (λ v. Reads (place self.old) (unsigned_event v) (place self.new)) }
+        ensures exact { self.old.at_key ≡ false
+            → result_ok result ≡ ahead (unsigned 64) (place self.old) }
+    {
         let at_key = self.at_key;
         match self.take()? {
             Node::Static(StaticNode::U64(n)) => Ok(n),
-            Node::Static(StaticNode::I64(0)) => Ok(0),
-            Node::Static(StaticNode::I64(_) | StaticNode::I128(_) | StaticNode::U128(_)) => {
-                Err(self.fault(MismatchKind::InvalidValue))
-            }
+            Node::Static(StaticNode::I64(n)) => self.fitting(u64::try_from(n).ok()),
+            Node::Static(StaticNode::I128(n)) => self.fitting(u64::try_from(n).ok()),
+            Node::Static(StaticNode::U128(n)) => self.fitting(u64::try_from(n).ok()),
             Node::String(key) if at_key && is_integer_key(key) => match key.parse::<u64>() {
                 Ok(n) => Ok(n),
                 Err(_) => Err(self.fault(MismatchKind::InvalidValue)),
@@ -71,14 +94,17 @@ impl<'n, 'i> Format for NodeReader<'n, 'i> {
         }
     }
 
-    fn i128(&mut self, _input: &[u8]) -> Result<i128, Fault> {
+    fn i128(&mut self, _input: &[u8]) -> Result<i128, Fault>
+        ensures given { IfOk result (λ v. Reads (place self.old) (signed_event v) (place self.new)) }
+        ensures exact { self.old.at_key ≡ false
+            → result_ok result ≡ ahead (signed 128) (place self.old) }
+    {
         let at_key = self.at_key;
         match self.take()? {
             Node::Static(StaticNode::I64(n)) => Ok(n as i128),
             Node::Static(StaticNode::U64(n)) => Ok(n as i128),
             Node::Static(StaticNode::I128(n)) => Ok(n),
-            Node::Static(StaticNode::U128(n)) if n < 1 << 127 => Ok(n as i128),
-            Node::Static(StaticNode::U128(_)) => Err(self.fault(MismatchKind::InvalidValue)),
+            Node::Static(StaticNode::U128(n)) => self.fitting(i128::try_from(n).ok()),
             Node::String(key) if at_key && is_integer_key(key) => match key.parse::<i128>() {
                 Ok(n) => Ok(n),
                 Err(_) => Err(self.fault(MismatchKind::InvalidValue)),
@@ -87,15 +113,17 @@ impl<'n, 'i> Format for NodeReader<'n, 'i> {
         }
     }
 
-    fn u128(&mut self, _input: &[u8]) -> Result<u128, Fault> {
+    fn u128(&mut self, _input: &[u8]) -> Result<u128, Fault>
+        ensures given { IfOk result (λ v. Reads (place self.old) (unsigned_event v) (place self.new)) }
+        ensures exact { self.old.at_key ≡ false
+            → result_ok result ≡ ahead (unsigned 128) (place self.old) }
+    {
         let at_key = self.at_key;
         match self.take()? {
             Node::Static(StaticNode::U64(n)) => Ok(n as u128),
             Node::Static(StaticNode::U128(n)) => Ok(n),
-            Node::Static(StaticNode::I64(0)) => Ok(0),
-            Node::Static(StaticNode::I64(_) | StaticNode::I128(_)) => {
-                Err(self.fault(MismatchKind::InvalidValue))
-            }
+            Node::Static(StaticNode::I64(n)) => self.fitting(u128::try_from(n).ok()),
+            Node::Static(StaticNode::I128(n)) => self.fitting(u128::try_from(n).ok()),
             Node::String(key) if at_key && is_integer_key(key) => match key.parse::<u128>() {
                 Ok(n) => Ok(n),
                 Err(_) => Err(self.fault(MismatchKind::InvalidValue)),
@@ -104,7 +132,10 @@ impl<'n, 'i> Format for NodeReader<'n, 'i> {
         }
     }
 
-    fn f32(&mut self, _input: &[u8]) -> Result<f32, Fault> {
+    fn f32(&mut self, _input: &[u8]) -> Result<f32, Fault>
+        ensures given { IfOk result (λ v. Reads (place self.old) (single v) (place self.new)) }
+        ensures exact { result_ok result ≡ ahead (float binary32) (place self.old) }
+    {
         let mut digits = itoa::Buffer::new();
         match self.take()? {
             Node::Decimal(literal) => self.nearest_f32(literal),
@@ -117,7 +148,10 @@ impl<'n, 'i> Format for NodeReader<'n, 'i> {
     }
 
     #[inline(always)]
-    fn f64(&mut self, _input: &[u8]) -> Result<f64, Fault> {
+    fn f64(&mut self, _input: &[u8]) -> Result<f64, Fault>
+        ensures given { IfOk result (λ v. Reads (place self.old) (double v) (place self.new)) }
+        ensures exact { result_ok result ≡ ahead (float binary64) (place self.old) }
+    {
         match self.take()? {
             Node::Decimal(literal) => self.nearest_f64(literal),
             Node::Static(StaticNode::I64(n)) => Ok(nearest_i64_to_f64(n)),
@@ -134,7 +168,12 @@ impl<'n, 'i> Format for NodeReader<'n, 'i> {
         }
     }
 
-    fn char(&mut self, _input: &[u8]) -> Result<char, Fault> {
+    fn char(&mut self, _input: &[u8]) -> Result<char, Fault>
+        ensures given { IfOk result (λ v. Reads (place self.old) (character v) (place self.new)) }
+        ensures ok { IfOk result (λ c. ahead text (place self.old) ≡ Some (encode_utf8 c)) }
+        ensures err { OnErr result ((c : ℕ) → IsScalar c
+            → ahead text (place self.old) ≢ Some (encode_utf8 c)) }
+    {
         match self.take_string()?.parse::<char>() {
             Ok(c) => Ok(c),
             Err(_) => Err(self.fault(MismatchKind::InvalidValue)),
@@ -164,7 +203,13 @@ impl<'n, 'i> Format for NodeReader<'n, 'i> {
     }
 
     #[inline(always)]
-    fn string(&mut self, alloc: Global, _input: &[u8]) -> Result<String, Fault> {
+    fn string(&mut self, alloc: Global, _input: &[u8]) -> Result<String, Fault>
+        ensures given { IfOk result
+            (λ v. Reads (place self.old) (text_event (string_bytes v)) (place self.new)) }
+        ensures ok { IfOk result (λ s. ahead text (place self.old) ≡ Some (string_bytes s)) }
+        ensures err { IfErr result (λ e. (e.kind ≡ MismatchKind.OutOfMemory)
+            ⊎ (ahead text (place self.old) ≡ None)) }
+    {
         match String::from_str(alloc, self.take_string()?) {
             Ok(text) => Ok(text),
             Err(_) => Err(self.fault(MismatchKind::OutOfMemory)),
@@ -195,23 +240,24 @@ impl<'n, 'i> Format for NodeReader<'n, 'i> {
         Err(self.fault(MismatchKind::MissingValue))
     }
 
-    fn peek(&mut self, _input: &[u8]) -> Result<Kind, Fault> {
+    fn peek(&mut self, _input: &[u8]) -> Result<Kind, Fault>
+        ensures stays { OnOk result (place self.new ≡ place self.old) }
+        ensures exact { result_ok result
+            ≡ ahead (λ item. Some (kind_in item)) (place self.old) }
+    {
         let node = self.look()?;
         self.looked = true;
-        Ok(match node {
-            Node::Static(StaticNode::Null) => Kind::Unit,
-            Node::Static(StaticNode::Bool(_)) => Kind::Bool,
-            Node::Static(StaticNode::I64(_) | StaticNode::I128(_)) => Kind::Signed,
-            Node::Static(StaticNode::U64(_) | StaticNode::U128(_)) => Kind::Unsigned,
-            Node::Decimal(_) => Kind::Float,
-            Node::String(_) => Kind::Str,
-            Node::Array { .. } => Kind::Seq,
-            Node::Object { .. } => Kind::Map,
-        })
+        Ok(kind_of(&node))
     }
 
     #[inline(always)]
-    fn take_unit(&mut self, _input: &[u8]) -> Result<bool, Fault> {
+    fn take_unit(&mut self, _input: &[u8]) -> Result<bool, Fault>
+        ensures given { IfOk result
+            (λ b. MatchBool b (Reads (place self.old) nothing (place self.new))
+            (place self.new ≡ place self.old)) }
+        ensures exact { result_ok result
+            ≡ ahead (λ item. Some (is_null item)) (place self.old) }
+    {
         if let Node::Static(StaticNode::Null) = self.look()? {
             self.take()?;
             return Ok(true);
@@ -221,12 +267,22 @@ impl<'n, 'i> Format for NodeReader<'n, 'i> {
     }
 
     #[inline(always)]
-    fn take_none(&mut self, input: &[u8]) -> Result<bool, Fault> {
+    fn take_none(&mut self, input: &[u8]) -> Result<bool, Fault>
+        ensures given { IfOk result
+            (λ b. MatchBool b (Reads (place self.old) nothing (place self.new))
+            (place self.new ≡ place self.old)) }
+        ensures exact { result_ok result
+            ≡ ahead (λ item. Some (is_null item)) (place self.old) }
+    {
         self.take_unit(input)
     }
 
     #[inline(always)]
-    fn begin_seq(&mut self, _input: &[u8]) -> Result<(), Fault> {
+    fn begin_seq(&mut self, _input: &[u8]) -> Result<(), Fault>
+        ensures given { OnOk result (Reads (place self.old) (seq_begins None) (place self.new)) }
+        ensures err { IfErr result (λ e. CanEnter array_count (place self.old)
+            → IsFull self.old e) }
+    {
         match self.take()? {
             Node::Array { count, .. } => self.enter(count),
             other => Err(self.unexpected(ValueType::Array, other)),
@@ -234,7 +290,12 @@ impl<'n, 'i> Format for NodeReader<'n, 'i> {
     }
 
     #[inline(always)]
-    fn next_item(&mut self, _input: &[u8]) -> Result<bool, Fault> {
+    fn next_item(&mut self, _input: &[u8]) -> Result<bool, Fault>
+        ensures given { IfOk result (λ b. MatchBool b (place self.new ≡ place self.old)
+            (Reads (place self.old) seq_ends (place self.new))) }
+        ensures more { IfOk result (λ b. b ≡ nat_lt self.old.at self.old.end) }
+        ensures err { OnErr result (IsLeft (place self.old)) }
+    {
         if self.at < self.end {
             self.looked = true;
             return Ok(true);
@@ -244,7 +305,11 @@ impl<'n, 'i> Format for NodeReader<'n, 'i> {
     }
 
     #[inline(always)]
-    fn begin_map(&mut self, _input: &[u8]) -> Result<(), Fault> {
+    fn begin_map(&mut self, _input: &[u8]) -> Result<(), Fault>
+        ensures given { OnOk result (Reads (place self.old) (map_begins None) (place self.new)) }
+        ensures err { IfErr result (λ e. CanEnter object_count (place self.old)
+            → IsFull self.old e) }
+    {
         match self.take()? {
             Node::Object { count, .. } => self.enter(count),
             other => Err(self.unexpected(ValueType::Object, other)),
@@ -267,7 +332,14 @@ impl<'n, 'i> Format for NodeReader<'n, 'i> {
     }
 
     #[inline(always)]
-    fn next_key(&mut self, _input: &[u8], names: &[Name<'_>]) -> Result<Option<usize>, Fault> {
+    fn next_key(&mut self, _input: &[u8], names: &[Name<'_>]) -> Result<Option<usize>, Fault>
+        ensures given { IfOk result
+            (λ o. MatchOption o (Reads (place self.old) map_ends (place self.new))
+            (λ at. Picks (place self.old) true names.now at (place self.new))) }
+        ensures more { IfOk result (λ o. is_some o ≡ nat_lt self.old.at self.old.end) }
+        ensures err { OnErr result
+            (IsLeft (place self.old) ⊎ (ahead text (place self.old) ≡ None)) }
+    {
         if self.at < self.end {
             return Ok(Some(serde::find(names, self.take_string()?)));
         }
@@ -276,7 +348,13 @@ impl<'n, 'i> Format for NodeReader<'n, 'i> {
     }
 
     #[inline(always)]
-    fn next_entry(&mut self, _input: &[u8]) -> Result<bool, Fault> {
+    fn next_entry(&mut self, _input: &[u8]) -> Result<bool, Fault>
+        ensures given { IfOk result
+            (λ b. MatchBool b (Reads (place self.old) key_begins (place self.new))
+            (Reads (place self.old) map_ends (place self.new))) }
+        ensures more { IfOk result (λ b. b ≡ nat_lt self.old.at self.old.end) }
+        ensures err { OnErr result (IsLeft (place self.old)) }
+    {
         if self.at < self.end {
             self.at_key = true;
             return Ok(true);
@@ -285,7 +363,11 @@ impl<'n, 'i> Format for NodeReader<'n, 'i> {
         Ok(false)
     }
 
-    fn variant(&mut self, _input: &[u8], names: &[Name<'_>]) -> Result<usize, Fault> {
+    fn variant(&mut self, _input: &[u8], names: &[Name<'_>]) -> Result<usize, Fault>
+        ensures given { IfOk result
+            (λ at. Picks (place self.old) false names.now at (place self.new)) }
+        ensures err { OnErr result (ahead text (place self.old) ≡ None) }
+    {
         Ok(serde::find(names, self.take_string()?))
     }
 
@@ -300,6 +382,7 @@ impl<'n, 'i> Format for NodeReader<'n, 'i> {
             })) }
         ensures value { OnOk result ((d : Document) → Stands (place self.old) d
             → self.new.at ≡ self.old.at + length (listing d)) }
+        ensures err { OnErr result (CanSkip (place self.old) → ⊥) }
     {
         let node = self.take()?;
         let count = beneath(&node);
@@ -343,33 +426,45 @@ impl<'n, 'i> Format for NodeReader<'n, 'i> {
         ensures { place self.new ≡ place self.old }
     {}
 
-    fn is_fatal(&self, error: &Fault) -> bool {
+    fn is_fatal(&self, error: &Fault) -> bool
+        ensures { IsTrue result ↔ (error.now.kind ≡ MismatchKind.OutOfMemory) }
+    {
         error.is_memory()
     }
 
     #[cold]
-    fn missing(&self, name: &str) -> Fault {
+    fn missing(&self, name: &str) -> Fault
+        ensures { result ≡ fault_at self.now MismatchKind.MissingField }
+    {
         self.named_fault(MismatchKind::MissingField, name)
     }
 
     #[cold]
-    fn duplicate(&self, name: &str) -> Fault {
+    fn duplicate(&self, name: &str) -> Fault
+        ensures { result ≡ fault_at self.now MismatchKind.DuplicateField }
+    {
         self.named_fault(MismatchKind::DuplicateField, name)
     }
 
     #[cold]
-    fn unknown_key(&self) -> Fault {
+    fn unknown_key(&self) -> Fault
+        ensures { result ≡ fault_at self.now MismatchKind.UnknownField }
+    {
         self.fault(MismatchKind::UnknownField)
     }
 
     #[cold]
-    fn unknown_variant(&self) -> Fault {
+    fn unknown_variant(&self) -> Fault
+        ensures { result ≡ fault_at self.now MismatchKind.UnknownVariant }
+    {
         self.fault(MismatchKind::UnknownVariant)
     }
 
     // Where an item was seen, the array was not left yet.
     #[cold]
-    fn wrong_len(&self) -> Fault {
+    fn wrong_len(&self) -> Fault
+        ensures { result ≡ length_fault self.now }
+    {
         let mut fault = self.fault(MismatchKind::InvalidLength);
         if self.looked {
             fault.depth = fault.depth.saturating_sub(1);
@@ -378,17 +473,39 @@ impl<'n, 'i> Format for NodeReader<'n, 'i> {
     }
 
     #[cold]
-    fn invalid(&self) -> Fault {
+    fn invalid(&self) -> Fault
+        ensures { result ≡ fault_at self.now MismatchKind.InvalidValue }
+    {
         self.fault(MismatchKind::InvalidValue)
     }
 
     #[cold]
-    fn no_memory(&self) -> Fault {
+    fn no_memory(&self) -> Fault
+        ensures { result ≡ fault_at self.now MismatchKind.OutOfMemory }
+    {
         self.fault(MismatchKind::OutOfMemory)
     }
 
     #[cold]
-    fn custom(&self, message: &str) -> Fault {
+    fn custom(&self, message: &str) -> Fault
+        ensures { result ≡ fault_at self.now MismatchKind.Custom }
+    {
         self.named_fault(MismatchKind::Custom, message)
+    }
+}
+
+// The kind of a node, as serde knows it.
+fn kind_of(node: &Node<'_>) -> Kind
+    ensures { result ≡ kind_in (item_of node.now) }
+{
+    match node {
+        Node::Static(StaticNode::Null) => Kind::Unit,
+        Node::Static(StaticNode::Bool(_)) => Kind::Bool,
+        Node::Static(StaticNode::I64(_) | StaticNode::I128(_)) => Kind::Signed,
+        Node::Static(StaticNode::U64(_) | StaticNode::U128(_)) => Kind::Unsigned,
+        Node::Decimal(_) => Kind::Float,
+        Node::String(_) => Kind::Str,
+        Node::Array { .. } => Kind::Seq,
+        Node::Object { .. } => Kind::Map,
     }
 }

@@ -1,9 +1,13 @@
 //! A place in the nodes of a document.
 ghost use Rattle.std.specs.Prelude.{◌≡◌, ◌+◌, ◌<◌, false, [], ◌∷◌, ◌++◌, length, slice_get};
-ghost use Rattle.std.specs.Prelude.{IfOk, OnOk};
+ghost use Rattle.std.specs.Prelude.{◌^◌, IfOk, IfErr, OnOk, OnErr, option_map};
+ghost use Rattle.std.specs.Result.{result_ok};
 ghost use Rattle.simd_json_parts.specs.Nodes.{item_of, string_item};
+ghost use Rattle.simd_json_parts.specs.NodeTypes.{item_type};
 ghost use Rattle.simd_json_serde.specs.Steps.{IsTaken, Takes, nodes_beneath};
 ghost use Rattle.simd_json_serde.specs.Places.{place};
+ghost use Rattle.simd_json_serde.specs.Ahead.{ahead, node_ahead, text};
+ghost use Rattle.simd_json_serde.specs.Faults.{fault_at, IsFull};
 
 use crate::error::{Fault, FaultName, MismatchKind};
 use simd_json::{Node, ValueType};
@@ -90,7 +94,9 @@ impl<'n, 'i> NodeReader<'n, 'i> {
     // That the value does not fit, with a name.
     #[cold]
     #[inline(never)]
-    pub(crate) fn named_fault(&self, kind: MismatchKind, name: &str) -> Fault {
+    pub(crate) fn named_fault(&self, kind: MismatchKind, name: &str) -> Fault
+        ensures { result ≡ fault_at self.now kind }
+    {
         self.name.set(FaultName::of(name));
         self.fault(kind)
     }
@@ -104,7 +110,9 @@ impl<'n, 'i> NodeReader<'n, 'i> {
     // node, on the level that the reader is on.
     #[cold]
     #[inline(never)]
-    pub(crate) fn fault(&self, kind: MismatchKind) -> Fault {
+    pub(crate) fn fault(&self, kind: MismatchKind) -> Fault
+        ensures { result ≡ fault_at self.now kind }
+    {
         let node = if self.looked {
             self.at
         } else {
@@ -119,7 +127,10 @@ impl<'n, 'i> NodeReader<'n, 'i> {
 
     #[cold]
     #[inline(never)]
-    pub(crate) fn unexpected(&self, expected: ValueType, got: Node<'i>) -> Fault {
+    pub(crate) fn unexpected(&self, expected: ValueType, got: Node<'i>) -> Fault
+        ensures { result ≡ fault_at self.now (MismatchKind.InvalidType expected
+            (item_type (item_of got.entry))) }
+    {
         let got = got.value_type();
         self.fault(MismatchKind::InvalidType { expected, got })
     }
@@ -127,8 +138,9 @@ impl<'n, 'i> NodeReader<'n, 'i> {
     // The next node of the innermost container.
     #[inline(always)]
     pub(crate) fn look(&self) -> Result<Node<'i>, Fault>
-        ensures { IfOk result (λ n. (self.now.at < self.now.end)
+        ensures taken { IfOk result (λ n. (self.now.at < self.now.end)
             × (slice_get self.now.nodes.now self.now.at ≡ Some n)) }
+        ensures exact { result_ok result ≡ node_ahead (place self.now) }
     {
         match self.nodes.get(self.at) {
             Some(node) if self.at < self.end => Ok(*node),
@@ -139,7 +151,9 @@ impl<'n, 'i> NodeReader<'n, 'i> {
     // The next node, which is passed.
     #[inline(always)]
     pub(crate) fn take(&mut self) -> Result<Node<'i>, Fault>
-        ensures { IfOk result (λ n. IsTaken (place self.old) n (place self.new)) }
+        ensures taken { IfOk result (λ n. IsTaken (place self.old) n (place self.new)) }
+        ensures exact { result_ok result ≡ node_ahead (place self.old) }
+        ensures kept { self.new.outer ≡ self.old.outer }
     {
         let node = self.look()?;
         self.at += 1;
@@ -150,8 +164,10 @@ impl<'n, 'i> NodeReader<'n, 'i> {
 
     #[inline(always)]
     pub(crate) fn take_string(&mut self) -> Result<&'i str, Fault>
-        ensures { IfOk result (λ s. Takes (place self.old)
+        ensures taken { IfOk result (λ s. Takes (place self.old)
             (λ _ item. item ≡ string_item s.now) (place self.new)) }
+        ensures exact { option_map (λ s. s.now) (result_ok result)
+            ≡ ahead text (place self.old) }
     {
         match self.take()? {
             Node::String(text) => Ok(text),
@@ -162,10 +178,11 @@ impl<'n, 'i> NodeReader<'n, 'i> {
     // Enters a container, whose header was taken and says how many nodes are beneath it.
     #[inline(always)]
     pub(crate) fn enter(&mut self, count: usize) -> Result<(), Fault>
-        ensures { OnOk result (place self.new ≡ record (place self.old) {
+        ensures entered { OnOk result (place self.new ≡ record (place self.old) {
           end = self.old.at + count;
           outer = self.old.outer.items ++ self.old.end ∷ [];
         }) }
+        ensures err { IfErr result (λ e. self.old.at + count < 2 ^ 64 → IsFull self.old e) }
     {
         let Some(end) = self.at.checked_add(count) else {
             return Err(self.fault(MismatchKind::MissingValue));
@@ -180,9 +197,10 @@ impl<'n, 'i> NodeReader<'n, 'i> {
     // Leaves the innermost container.
     #[inline(always)]
     pub(crate) fn leave(&mut self) -> Result<(), Fault>
-        ensures { OnOk result ((self.new.at ≡ self.old.at)
+        ensures left { OnOk result ((self.new.at ≡ self.old.at)
             × (self.old.outer.items ≡ self.new.outer.items ++ self.new.end ∷ [])
             × (self.new.nodes ≡ self.old.nodes) × (self.new.at_key ≡ self.old.at_key)) }
+        ensures err { OnErr result (self.old.outer.items ≡ []) }
     {
         match self.outer.pop() {
             Some(end) => {

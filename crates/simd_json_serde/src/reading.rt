@@ -1,8 +1,12 @@
 //! The entry points.
-ghost use Rattle.std.specs.Prelude.{◌≡◌, ◌≤◌, ◌<◌, ℕ, length, Ok, IfOk, OnOk, OnErr};
+ghost use Rattle.std.specs.Prelude.{◌≡◌, ◌≤◌, ◌<◌, ◌⊎◌, ℕ, length, OnOk, OnErr, IfErr};
+ghost use Rattle.std.specs.Vec.{vec_capacity};
+ghost use Rattle.std.specs.Result.{result_ok};
 ghost use Rattle.simd_json_check.specs.Capacities.{default_max_depth};
 ghost use Rattle.simd_json.specs.Reserved.{IsReserved};
-ghost use Rattle.simd_json_serde.specs.Outcomes.{IsRead, IsLate, HasParseMemory};
+ghost use Rattle.simd_json_serde.specs.Kept.{capacity};
+ghost use Rattle.simd_json_serde.specs.Outcomes.{IsRead, IsLate, IsOf, IsNoMemory};
+ghost use Rattle.simd_json_serde.specs.Outcomes.{HasParseMemory};
 
 use crate::error::{Error, Fault, Mismatch};
 use crate::node_reader::NodeReader;
@@ -117,8 +121,6 @@ impl Texts {
         }
     }
 
-    ghost use Rattle.simd_json_serde.specs.Kept.{capacity};
-
     /// Reserves capacity for inputs of up to `input_len` bytes, about 9 bytes for each. With as
     /// much in buffers and tape, which [`reserve`](simd_json::reserve) sees to, a read of such an
     /// input allocates what the type itself owns, and nothing else.
@@ -170,6 +172,7 @@ pub fn read_owned<'k, T: DeserializeOwned>(
     texts: &mut Texts,
 ) -> (Result<T, Error>, Tape<'k, Global>)
     ensures read { IsRead input.old buffers.old.limit result.0 }
+    ensures kept { (capacity texts.old ≤ capacity texts.new) ⊎ IfErr result.0 IsNoMemory }
     ensures limit { buffers.new.limit ≡ buffers.old.limit }
     ensures reserved { (len : ℕ) → IsReserved len buffers.old kept.entry
         → IsReserved len buffers.new result.1
@@ -199,21 +202,41 @@ fn read_nodes<'de, T: Deserialize<'de>>(
     if copy_strings(nodes, text, starts).is_err() {
         return Err(Error::no_memory(alloc));
     }
+    let room = outer.capacity();
     let kept = std::mem::replace(outer, Vec::new(alloc));
     let mut reader = NodeReader::with_starts(nodes, starts, kept);
     let read = read_one(alloc, text, &mut reader);
     *outer = reader.into_outer();
-    read
+    match has_room(outer, room) {
+        Ok(()) => read,
+        Err(_) => Err(Error::no_memory(alloc)),
+    }
 }
 
 fn read_nodes_owned<T: DeserializeOwned>(nodes: &[Node<'_>], texts: &mut Texts) -> Result<T, Error>
-    ensures { IsLate result }
+    ensures late { IsLate result }
+    ensures kept { (capacity texts.old ≤ capacity texts.new) ⊎ IfErr result IsNoMemory }
 {
+    let room = texts.outer.capacity();
     let kept = std::mem::replace(&mut texts.outer, Vec::new(texts.alloc));
     let mut reader = NodeReader::new(nodes, kept);
     let read = read_one_owned(texts.alloc, &mut reader);
     texts.outer = reader.into_outer();
-    read
+    match has_room(&mut texts.outer, room) {
+        Ok(()) => read,
+        Err(_) => Err(Error::no_memory(texts.alloc)),
+    }
+}
+
+// A reader gives up no capacity; but a type's own code had it, of which nothing is known.
+fn has_room(outer: &mut Vec<usize>, room: usize) -> Result<(), AllocError>
+    ensures { OnOk result (room ≤ vec_capacity outer.new) }
+{
+    if outer.capacity() < room {
+        outer.clear();
+        outer.reserve(room)?;
+    }
+    Ok(())
 }
 
 fn read_one<'de, T: Deserialize<'de>>(
@@ -245,7 +268,8 @@ pub(crate) fn located<T>(
     reader: &NodeReader<'_, '_>,
 ) -> Result<T, Error>
     ensures late { IsLate result }
-    ensures same { IfOk result (λ value. read ≡ Ok value) }
+    ensures same { result_ok result ≡ result_ok read }
+    ensures kind { IfErr read (λ fault. IfErr result (IsOf fault.kind)) }
 {
     match read {
         Ok(value) => Ok(value),

@@ -2,6 +2,8 @@
 //!
 //! `serde::Format` names no lifetime: a type borrows from the input of its `Deserializer`, and not
 //! from the nodes. So the strings are copied, one after another, to where they can be borrowed.
+ghost use Rattle.std.specs.Prelude.{◌≤◌, length};
+
 use simd_json::Node;
 use simd_json_check::lists::lengthen;
 use simd_json_print::text::store_bytes;
@@ -13,12 +15,15 @@ pub(crate) fn copy_strings(
     nodes: &[Node<'_>],
     text: &mut Vec<u8>,
     starts: &mut Vec<u32>,
-) -> Result<(), AllocError> {
+) -> Result<(), AllocError>
+    ensures text { length text.old.items ≤ length text.new.items }
+    ensures starts { length starts.old.items ≤ length starts.new.items }
+{
     lengthen(starts, nodes.len(), 0)?;
     let mut used = 0usize;
-    for (node, start) in nodes.iter().zip(starts.iter_mut()) {
-        *start = u32::try_from(used).unwrap_or(u32::MAX);
-        if let Node::String(string) = node {
+    for index in 0..nodes.len() {
+        starts[index] = u32::try_from(used).unwrap_or(u32::MAX);
+        if let Node::String(string) = &nodes[index] {
             used = copy_string(text, used, string)?;
         }
     }
@@ -27,7 +32,9 @@ pub(crate) fn copy_strings(
 
 // Copies a string to where those before it end. Returns where it ends.
 #[inline(always)]
-fn copy_string(text: &mut Vec<u8>, used: usize, string: &str) -> Result<usize, AllocError> {
+fn copy_string(text: &mut Vec<u8>, used: usize, string: &str) -> Result<usize, AllocError>
+    ensures { length text.old.items ≤ length text.new.items }
+{
     let end = used.saturating_add(string.len());
     if end > text.len() {
         lengthen(text, end.saturating_mul(2), 0)?;

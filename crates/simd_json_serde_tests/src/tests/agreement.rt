@@ -16,24 +16,33 @@ const WIDE: &str = r#"[[-128,-32768,-2147483648,-9223372036854775808],
 [-170141183460469231731687303715884105728,340282366920938463463374607431768211455,1.1,
 12345678901234567890123],["\u00e9",true,null,18446744073709551615],[1,2,3]]"#;
 
-// How many of the lines are values. Both readers return the same for each, or both an error; but
-// `-0` is an integer here, and a float there.
+// How many of the lines are values. Both readers return the same for each, or both an error.
 fn values_in<'a, T: DeserializeOwned + Deserialize<'a> + PartialEq>(
     rt: &impl Abort,
     alloc: Global,
     lines: &'a str,
+) -> usize {
+    values_beside::<T>(rt, alloc, lines, lines)
+}
+
+// The same, where the other reader is given lines of its own.
+fn values_beside<'a, T: DeserializeOwned + Deserialize<'a> + PartialEq>(
+    rt: &impl Abort,
+    alloc: Global,
+    lines: &str,
+    their_lines: &'a str,
 ) -> usize {
     let mut values = 0usize;
     let mut input = Vec::new(alloc);
     let mut buffers = Buffers::new(alloc, 0).expect(rt, MEMORY);
     let mut texts = Texts::new(alloc);
     let mut kept = Tape::empty(alloc);
-    for line in lines.lines() {
+    for (line, their_line) in lines.lines().zip(their_lines.lines()) {
         input.clear();
         input.extend_from_slice(line.as_bytes()).expect(rt, MEMORY);
         let (ours, tape) = read_owned::<T>(&mut input, &mut buffers, kept, &mut texts);
         kept = tape;
-        let theirs: Result<T, serde_json::Error> = serde_json::from_str(alloc, line);
+        let theirs: Result<T, serde_json::Error> = serde_json::from_str(alloc, their_line);
         if ours.is_ok() {
             values = values.saturating_add(1);
         }
@@ -42,9 +51,30 @@ fn values_in<'a, T: DeserializeOwned + Deserialize<'a> + PartialEq>(
             (Err(_), Err(_)) => true,
             _ => false,
         };
-        assert!(rt; agrees || line.contains("-0"), "{line}");
+        assert!(rt; agrees, "{line}");
     }
     values
+}
+
+// The lines with 0 for each value `-0`, which is an integer here, and a float there.
+fn without_minus_zero(rt: &impl Abort, alloc: Global, lines: &str) -> String {
+    let mut text = String::new(alloc);
+    let mut before = '\n';
+    for (at, c) in lines.char_indices() {
+        let rest = lines.get(at..).unwrap_or("");
+        if !(matches!(before, '\n' | '[' | ',' | ':') && begins_with_minus_zero(rest)) {
+            text.push(c).expect(rt, MEMORY);
+        }
+        before = c;
+    }
+    text
+}
+
+fn begins_with_minus_zero(text: &str) -> bool {
+    let Some(after) = text.strip_prefix("-0") else {
+        return false;
+    };
+    matches!(after.chars().next(), None | Some('\n' | ']' | '}' | ','))
 }
 
 #[test]
@@ -134,7 +164,11 @@ const SCALARS: &str = r#"0.1
 1e400
 123456789012345678901234567890
 [1,"x",null]
-"x""#;
+"x"
+-0
+-0.0
+-1
+[-0,"x",null]"#;
 
 #[test]
 fn maps_tuples_and_numbers_agree(rt: HostRuntime) {
@@ -143,16 +177,17 @@ fn maps_tuples_and_numbers_agree(rt: HostRuntime) {
     assert_eq!(rt; values_in::<BTreeMap<String, Vec<u8>>>(&rt, alloc, KEYS), 6);
     let wide = one_line(&rt, alloc, WIDE);
     assert_eq!(rt; values_in::<Wide>(&rt, alloc, &wide), 1);
-    assert_eq!(rt; values_in::<f64>(&rt, alloc, SCALARS), 11);
-    assert_eq!(rt; values_in::<f32>(&rt, alloc, SCALARS), 11);
-    assert_eq!(rt; values_in::<i8>(&rt, alloc, SCALARS), 2);
-    assert_eq!(rt; values_in::<u8>(&rt, alloc, SCALARS), 3);
-    assert_eq!(rt; values_in::<i64>(&rt, alloc, SCALARS), 6);
-    assert_eq!(rt; values_in::<u128>(&rt, alloc, SCALARS), 8);
-    assert_eq!(rt; values_in::<char>(&rt, alloc, SCALARS), 1);
+    let theirs = without_minus_zero(&rt, alloc, SCALARS);
+    assert_eq!(rt; values_beside::<f64>(&rt, alloc, SCALARS, &theirs), 14);
+    assert_eq!(rt; values_beside::<f32>(&rt, alloc, SCALARS, &theirs), 14);
+    assert_eq!(rt; values_beside::<i8>(&rt, alloc, SCALARS, &theirs), 4);
+    assert_eq!(rt; values_beside::<u8>(&rt, alloc, SCALARS, &theirs), 4);
+    assert_eq!(rt; values_beside::<i64>(&rt, alloc, SCALARS, &theirs), 8);
+    assert_eq!(rt; values_beside::<u128>(&rt, alloc, SCALARS, &theirs), 9);
+    assert_eq!(rt; values_beside::<char>(&rt, alloc, SCALARS, &theirs), 1);
     assert_eq!(rt;
-        values_in::<(u8, String, Option<bool>)>(&rt, alloc, SCALARS),
-        1
+        values_beside::<(u8, String, Option<bool>)>(&rt, alloc, SCALARS, &theirs),
+        2
     );
 }
 
@@ -168,10 +203,18 @@ fn mutants_agree(rt: HostRuntime) {
     };
     let tweets = one_line(&rt, alloc, TWEETS);
     let tweets = mutants_of(&rt, alloc, &tweets, step);
-    assert_eq!(rt; values_in::<Vec<Tweet>>(&rt, alloc, &tweets), tweet_values);
+    let theirs = without_minus_zero(&rt, alloc, &tweets);
+    assert_eq!(rt;
+        values_beside::<Vec<Tweet>>(&rt, alloc, &tweets, &theirs),
+        tweet_values
+    );
     let wide = one_line(&rt, alloc, WIDE);
     let wide = mutants_of(&rt, alloc, &wide, step);
-    assert_eq!(rt; values_in::<Wide>(&rt, alloc, &wide), wide_values);
+    let theirs = without_minus_zero(&rt, alloc, &wide);
+    assert_eq!(rt;
+        values_beside::<Wide>(&rt, alloc, &wide, &theirs),
+        wide_values
+    );
 }
 
 fn one_line(rt: &impl Abort, alloc: Global, lines: &str) -> String {

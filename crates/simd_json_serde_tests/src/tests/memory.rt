@@ -1,9 +1,11 @@
 // Each read returns its value or an error of memory, also where an allocation fails: by hand,
-// `rt try --test --fail-alloc N` for each N, where the other tests may fail.
+// `rt try --test --fail-alloc N` for each N, where the other tests may fail, and these at `SETUP`.
 use crate::tests::types::{Folder, Line, Tweet};
 use simd_json::{Buffers, ErrorType, Tape, reserve};
 use simd_json_serde::{Error, MismatchKind, Texts, from_slice, from_slice_owned, read};
 use std::process::Abort;
+
+const SETUP: &str = "what is kept was made";
 
 fn assert_read_or_of_memory<T>(rt: &impl Abort, what: &str, read: &Result<T, Error>) {
     let is_read = match read {
@@ -28,9 +30,7 @@ fn failed_allocations_are_errors(rt: HostRuntime) {
     assert!(rt; misfit.is_err(), "a misfit");
     let mut texts = Texts::new(alloc);
     let mut kept = Tape::empty(alloc);
-    let Ok(mut buffers) = Buffers::new(alloc, 0) else {
-        return;
-    };
+    let mut buffers = Buffers::new(alloc, 0).expect(&rt, SETUP);
     for _ in 0..2 {
         let mut input = *br#"{"level":"\u0041","status":200,"path":"\/a","z":[{}]}"#;
         let (line, tape) = read::<Line<'_>>(&mut input, &mut buffers, kept, &mut texts);
@@ -46,12 +46,9 @@ fn reserved_reads_need_no_memory(rt: HostRuntime) {
     let text = br#"{"level":"\u0041","status":200,"path":"\/a","z":[[[[[]]]]]}"#;
     let mut texts = Texts::new(alloc);
     let mut kept = Tape::empty(alloc);
-    let Ok(mut buffers) = Buffers::new(alloc, 0) else {
-        return;
-    };
-    if reserve(text.len(), &mut buffers, &mut kept).is_err() || texts.reserve(text.len()).is_err() {
-        return;
-    }
+    let mut buffers = Buffers::new(alloc, 0).expect(&rt, SETUP);
+    reserve(text.len(), &mut buffers, &mut kept).expect(&rt, SETUP);
+    texts.reserve(text.len()).expect(&rt, SETUP);
     for _ in 0..2 {
         let mut input = *text;
         let (line, tape) = read::<Line<'_>>(&mut input, &mut buffers, kept, &mut texts);

@@ -5,6 +5,6 @@ use Rattle.simd_json_serde.proofs.format.NodeReaderFormat.skip.Goals as goal
 
 pub returns-clause-value : goal.returns-clause-value
 returns-clause-value c d h =
-    let taken = c.in_ok-node.ensures in
+    let taken = c.in_ok-node.ensures.taken in
     let whole = stands_beneath c.args.self.now.nodes.now c.args.self.now.at d c.in_ok-node.node h.0 taken.1 h.1 in
     grind (arith, common_steps)

@@ -1,5 +1,5 @@
 use Rattle.simd_json_serde.proofs.format.NodeReaderFormat.variant.Goals as goal
 
-pub returns : goal.returns
-returns c =
-    (c.in_ok-take_string.field-0.now, c.in_ok-take_string.ensures, (c.find.ensures.found, c.find.ensures.first, c.find.ensures.range))
+pub returns-clause-given : goal.returns-clause-given
+returns-clause-given c =
+    (c.in_ok-take_string.field-0.now, c.in_ok-take_string.ensures.taken, (c.find.ensures.found, c.find.ensures.first, c.find.ensures.range))
