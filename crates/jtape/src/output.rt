@@ -16,7 +16,8 @@ use crate::runs::RunFault;
 use crate::words::Layout;
 use jsonl::Channel;
 use simd_json::{Buffers, Node, to_tape_with_buffers};
-use simd_json_print::document::{put_compact, put_pretty};
+use simd_json_check::lists::lengthen;
+use simd_json_print::document::{Level, put_compact_within, put_pretty_within};
 use simd_json_print::text::Text;
 use std::alloc::Allocator;
 use std::io::Write;
@@ -48,17 +49,22 @@ pub(crate) fn write_output<A: Allocator + Copy, W: Write>(
 {
     let mut buffers = Buffers::empty(a, depth);
     let tape = to_tape_with_buffers(input, &mut buffers)?;
-    print(writer, layout, tape.nodes(), buffers.structural_indexes())
+    let nodes = tape.nodes();
+    let mut levels = Vec::new(a);
+    lengthen(&mut levels, depth.min(nodes.len()), Level::EMPTY)?;
+    let structural_indexes = buffers.structural_indexes();
+    print(writer, layout, nodes, structural_indexes, &mut levels)
 }
 
-// Writes a document in a layout, from its nodes and structural indexes. A function of its own:
-// compiled as one, the parse is slower.
+// Writes a document in a layout, from its nodes and structural indexes, with levels for what is
+// open. A function of its own: compiled as one, the parse is slower.
 #[inline(never)]
 fn print<W: Write>(
     writer: &mut Channel<W>,
     layout: Layout,
     nodes: &[Node<'_>],
     structural_indexes: &[u32],
+    levels: &mut [Level],
 ) -> Result<(), RunFault>
     requires { writer.old.failed ≡ false }
     ensures all { (d : Document) → (input : List ℕ)
@@ -78,11 +84,11 @@ fn print<W: Write>(
         Layout::Tape => put_lines(&mut text, nodes),
         Layout::Positions => put_positions(&mut text, structural_indexes),
         Layout::Compact => {
-            put_compact(&mut text, nodes);
+            put_compact_within(&mut text, nodes, levels);
             text.put(b"\n");
         }
         Layout::Pretty => {
-            put_pretty(&mut text, nodes);
+            put_pretty_within(&mut text, nodes, levels);
             text.put(b"\n");
         }
     }

@@ -21,8 +21,9 @@ use crate::runs::RunFault;
 use jsonl::Channel;
 use memchr::memchr;
 use simd_json::{Buffers, Error, ErrorType, Tape, fill_tape};
+use simd_json_check::lists::lengthen;
 use simd_json_parts::charutils::is_blank;
-use simd_json_print::document::put_compact;
+use simd_json_print::document::{Level, put_compact_within};
 use simd_json_print::text::{Target, Text};
 use std::alloc::{AllocError, Allocator};
 use std::io::Write;
@@ -88,6 +89,7 @@ fn put_stream<A: Allocator + Copy, T: Target, const SIZE: usize>(
 struct Stream<'de, A: Allocator> {
     buffers: Buffers<A>,
     tape: Tape<'de, A>,
+    levels: Vec<Level, A>,
     fault: String<A>,
 }
 
@@ -99,6 +101,7 @@ impl<'de, A: Allocator + Copy> Stream<'de, A> {
         Ok(Stream {
             buffers: Buffers::empty(a, depth),
             tape: Tape::null(a)?,
+            levels: Vec::new(a),
             fault: String::new(a),
         })
     }
@@ -123,7 +126,10 @@ impl<'de, A: Allocator> Stream<'de, A> {
         }
         match fill_tape(piece, &mut self.buffers, &mut self.tape) {
             Ok(()) => {
-                put_compact(text, self.tape.nodes());
+                let nodes = self.tape.nodes();
+                let open = self.buffers.max_depth().min(nodes.len());
+                lengthen(&mut self.levels, open, Level::EMPTY)?;
+                put_compact_within(text, nodes, &mut self.levels);
                 text.put(b"\n");
                 Ok(true)
             }

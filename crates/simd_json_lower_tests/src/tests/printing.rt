@@ -1,8 +1,11 @@
 use crate::tests::takes_all;
 use simd_json_parts::node::{Node, StaticNode};
 use simd_json_print::document::{
-    append_compact, append_pretty, append_quoted, write_compact, write_pretty, write_quoted,
+    Level, append_compact, append_pretty, append_quoted, put_compact_within, write_compact,
+    write_pretty, write_quoted,
 };
+use simd_json_print::text::Text;
+use std::alloc::{AllocError, Global};
 use std::io::{self, ErrorKind, Write};
 use std::test::Fail;
 
@@ -196,36 +199,65 @@ fn escapes_are_found_wherever_they_stand(rt: HostRuntime) -> std::result::Result
     Ok(())
 }
 
-// Far more containers than a call keeps open, of both kinds in turn: `[{"":[{"":..`. A call takes
-// several times the stack where it is compiled with checks, so tests/unit.sh gives it more; and
-// tests/statuses.sh has as deep a value printed as programs are built.
+// The nodes of pairs of containers of both kinds, each in the one before: `[{"":[{"":..`.
+fn nested(alloc: Global, pairs: usize) -> std::result::Result<Vec<Node<'static>>, AllocError> {
+    let mut nodes = Vec::new(alloc);
+    for open in 0..pairs {
+        let count = 3 * (pairs - open);
+        nodes.push(Node::Array { len: 1, count })?;
+        let len = 1;
+        nodes.push(Node::Object {
+            len,
+            count: count - 1,
+        })?;
+        nodes.push(Node::String(""))?;
+    }
+    nodes.push(Node::Static(StaticNode::Null))?;
+    Ok(nodes)
+}
+
+// Their compact text.
+fn nested_text(alloc: Global, pairs: usize) -> std::result::Result<Vec<u8>, AllocError> {
+    let mut text = Vec::new(alloc);
+    for _ in 0..pairs {
+        text.extend_from_slice(b"[{\"\":")?;
+    }
+    text.extend_from_slice(b"null")?;
+    for _ in 0..pairs {
+        text.extend_from_slice(b"}]")?;
+    }
+    Ok(text)
+}
+
+// Far more containers than a call keeps open. A call takes several times the stack where it is
+// compiled with checks, so tests/unit.sh gives it more; and tests/statuses.sh has as deep a value
+// printed as programs are built.
 #[test]
 fn deep_values_take_little_of_the_stack(rt: HostRuntime) -> std::result::Result<(), Fail> {
     let most = if takes_all(&rt) { 250_000 } else { 20_000 };
     for pairs in [31, 32, 33, 100, most] {
-        let mut nodes = Vec::new(rt.alloc());
-        for open in 0..pairs {
-            let count = 3 * (pairs - open);
-            nodes.push(Node::Array { len: 1, count })?;
-            let len = 1;
-            nodes.push(Node::Object {
-                len,
-                count: count - 1,
-            })?;
-            nodes.push(Node::String(""))?;
-        }
-        nodes.push(Node::Static(StaticNode::Null))?;
+        let nodes = nested(rt.alloc(), pairs)?;
         let mut compact = Vec::new(rt.alloc());
         append_compact(&mut compact, nodes.as_slice())?;
-        let mut wanted = Vec::new(rt.alloc());
-        for _ in 0..pairs {
-            wanted.extend_from_slice(b"[{\"\":")?;
-        }
-        wanted.extend_from_slice(b"null")?;
-        for _ in 0..pairs {
-            wanted.extend_from_slice(b"}]")?;
-        }
+        let wanted = nested_text(rt.alloc(), pairs)?;
         assert!(rt; compact.as_slice() == wanted.as_slice(), "{pairs} pairs");
+    }
+    Ok(())
+}
+
+// None, fewer and more than are open.
+#[test]
+fn lent_levels_change_no_text(rt: HostRuntime) -> std::result::Result<(), Fail> {
+    let nodes = nested(rt.alloc(), 100)?;
+    let wanted = nested_text(rt.alloc(), 100)?;
+    for len in [0, 1, 2, 63, 64, 65, 199, 200, 201] {
+        let mut levels = Vec::new(rt.alloc());
+        levels.resize(len, Level::EMPTY)?;
+        let mut compact = Vec::new(rt.alloc());
+        let mut text = Text::<_, 64>::new(&mut compact);
+        put_compact_within(&mut text, nodes.as_slice(), levels.as_mut_slice());
+        text.finish()?;
+        assert!(rt; compact.as_slice() == wanted.as_slice(), "{len} levels");
     }
     Ok(())
 }

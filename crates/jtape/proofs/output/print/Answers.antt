@@ -17,9 +17,10 @@ returns-in-Ok g c =
       | in-Tape w ↦ put-into w.text-is w.in-Tape.is (put-tape _ _ _ _ _ w.put_lines.ensures)
       | in-Positions w ↦ put-into w.text-is w.in-Positions.is (put-positions _ _ _ _ _ w.put_positions.ensures)
       | in-Compact w ↦ put-into w.text-is w.in-Compact.is
-          (put-text _ _ _ _ _ _ Compact compact (λ input d. refl) w.put_compact.ensures.kept w.put_compact.ensures.given w.put.ensures)
+          (put-text _ _ _ _ _ _ Compact compact (λ input d. refl) w.put_compact_within.ensures.kept w.put_compact_within.ensures.given
+          w.put.ensures)
       | in-Pretty w ↦ put-into w.text-is w.in-Pretty.is
-          (put-text _ _ _ _ _ _ Pretty pretty (λ input d. refl) w.put_pretty.ensures.kept w.put_pretty.ensures.given
+          (put-text _ _ _ _ _ _ Pretty pretty (λ input d. refl) w.put_pretty_within.ensures.kept w.put_pretty_within.ensures.given
           w.put-in-Pretty.ensures)
     ] in
     record {
@@ -44,9 +45,10 @@ returns-in-Err g c =
       | in-Tape w ↦ put-into w.text-is w.in-Tape.is (put-tape _ _ _ _ _ w.put_lines.ensures)
       | in-Positions w ↦ put-into w.text-is w.in-Positions.is (put-positions _ _ _ _ _ w.put_positions.ensures)
       | in-Compact w ↦ put-into w.text-is w.in-Compact.is
-          (put-text _ _ _ _ _ _ Compact compact (λ input d. refl) w.put_compact.ensures.kept w.put_compact.ensures.given w.put.ensures)
+          (put-text _ _ _ _ _ _ Compact compact (λ input d. refl) w.put_compact_within.ensures.kept w.put_compact_within.ensures.given
+          w.put.ensures)
       | in-Pretty w ↦ put-into w.text-is w.in-Pretty.is
-          (put-text _ _ _ _ _ _ Pretty pretty (λ input d. refl) w.put_pretty.ensures.kept w.put_pretty.ensures.given
+          (put-text _ _ _ _ _ _ Pretty pretty (λ input d. refl) w.put_pretty_within.ensures.kept w.put_pretty_within.ensures.given
           w.put-in-Pretty.ensures)
     ] in
     record {

@@ -11,7 +11,7 @@ returns-clause-all g c =
     within c.in_ok-tape.ensures.parse in
     let out = parsed-output c.args.layout input c.args.depth _ _ _ parse in
     all-written c.print.result (c.print.new.writer.failed ≡ false) _ _ _ _ out.3 c.print.ensures.sound
-    (c.print.ensures.all out.0 input (c.nodes.ensures ∙ out.1) (c.structural_indexes.ensures ∙ out.2))
+    (c.print.ensures.all out.0 input (c.nodes-nodes.ensures ∙ out.1) (c.structural_indexes-structural_indexes.ensures ∙ out.2))
 
 pub returns-clause-begun : goal.returns-clause-begun
 returns-clause-begun g c =
@@ -21,4 +21,4 @@ returns-clause-begun g c =
     within c.in_ok-tape.ensures.parse in
     let out = parsed-output c.args.layout input c.args.depth _ _ _ parse in
     begun-written c.print.result (c.print.new.writer.failed ≡ true) _ _ _ _ out.3 c.print.ensures.fault
-    (c.print.ensures.begun out.0 input (c.nodes.ensures ∙ out.1) (c.structural_indexes.ensures ∙ out.2))
+    (c.print.ensures.begun out.0 input (c.nodes-nodes.ensures ∙ out.1) (c.structural_indexes-structural_indexes.ensures ∙ out.2))
