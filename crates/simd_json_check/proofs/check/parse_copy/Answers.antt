@@ -11,8 +11,10 @@ pub returns-in_err-extend_from_slice-clause-fault : goal.returns-in_err-extend_f
 returns-in_err-extend_from_slice-clause-fault g c =
     let right = right-input c.args.input.now c.requires.whole in
     passed-on c.from_residual.result (whole_fault OutOfMemory) _ c.from_residual.ensures.1
-    (inr ((refl, right.0, right.1),
-        inl (omega (arith, c.in_err-extend_from_slice.ensures.full, c.clear.ensures.capacity, c.clear.ensures.len))))
+    (inr (
+      (refl, right.0, right.1),
+      inl (omega (arith, c.in_err-extend_from_slice.ensures.full, c.clear.ensures.capacity, c.clear.ensures.len)),
+    ))
 
 pub returns-in_err-lengthen-clause-fault : goal.returns-in_err-lengthen-clause-fault
 returns-in_err-lengthen-clause-fault g c =
@@ -26,7 +28,7 @@ returns-in_err-lengthen-clause-fault g c =
 pub returns-clause-document : goal.returns-clause-document
 returns-clause-document g c =
     let copied = c.as_mut_slice.ensures.value ∙ c.in_ok-extend_from_slice.ensures.items
-        ∙ ap (λ bs. bs ++ c.args.input.now) c.clear.ensures.items in
+    ∙ ap (λ bs. bs ++ c.args.input.now) c.clear.ensures.items in
     let answered = descent-answered c.args.input.now c.args.max_depth c.requires.whole in
     on_ok_weaker c.count_nodes.result
     (λ d. (d.0, answered ∙ subst (λ b. descent b c.args.max_depth ≡ Ok d.0) copied d.1)) c.count_nodes.ensures.document
@@ -34,7 +36,7 @@ returns-clause-document g c =
 pub returns-clause-fault : goal.returns-clause-fault
 returns-clause-fault g c =
     let copied = c.as_mut_slice.ensures.value ∙ c.in_ok-extend_from_slice.ensures.items
-        ∙ ap (λ bs. bs ++ c.args.input.now) c.clear.ensures.items in
+    ∙ ap (λ bs. bs ++ c.args.input.now) c.clear.ensures.items in
     let answered = descent-answered c.args.input.now c.args.max_depth c.requires.whole in
     IfErr-weaker c.count_nodes.result _ _
     (λ e is. inl (answered ∙ subst (λ b. descent b c.args.max_depth ≡ Err e) copied is)) c.count_nodes.ensures.fault

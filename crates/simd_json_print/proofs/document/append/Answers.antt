@@ -32,7 +32,7 @@ returns-in-Err g c =
           search rules;
       begun = λ d is.
           let all = is-appended put.result _ _ old put.new.target (text (not (nat_eq g.row.PRETTY 0)) d 0)
-              (put.ensures.given d is) in
+          (put.ensures.given d is) in
           search rules;
       kept = search rules;
       capacity = search rules;

@@ -38,7 +38,7 @@ loop-k-preserved c =
       s,
       c.ends_token-is_fresh.ensures
           ∙ ends-at b k before.is_escaped before.is_inside l c.loop-k.invariant.0 quoted.result quoted.ensures
-              after.is_escaped after.is_inside s,
+          after.is_escaped after.is_inside s,
       below_more _ _ c.loop-k.invariant.2 (elim c.else-i-k.branch [
         | else-i-k-via-then-i-k+else-begins_token w ↦ and_right (nat_lt c.args.i k) (is_position b k)
             (sym at ∙ sym w.begins_token.ensures ∙ w.if-begins_token.false)
