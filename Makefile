@@ -96,7 +96,8 @@ test: has-rt
 	sh tests/contracts.sh
 	sh tests/commands.sh
 
-# Every must-fail edit, and edits.txt, which says what was tried. With CRATES=".." those of these crates alone, while one writes.
+# The must-fail edits of crates that have changed (ANEW=1: all), and edits.txt, which says what was tried. With CRATES=".." those of these
+# crates alone, while one writes.
 edits: has-rt
 	JOBS=$(jobs) RT_JOBS=$$(($(jobs) + 1)) ANEW=$(ANEW) sh scripts/gate.sh edits $(if $(filter command,$(origin CRATES)),$(CRATES))
 
@@ -193,7 +194,7 @@ help:
 	@echo "make vendor DIR=DIR         copies the library's crates into another repository; with CRATES=simd_json_serde that crate too"
 	@echo "make try                    the first run within a minute, without a proof"
 	@echo "make test                   the gate: proofs, programs, tests, and the must-fail edits of crates that have changed"
-	@echo "make edits                  all must-fail edits; writes edits.txt"
+	@echo "make edits                  the must-fail edits of crates that have changed, ANEW=1 all; writes edits.txt"
 	@echo "make test-long              before a release: long tests over all their inputs, commands for many machines"
 	@echo "make test-c                 the library, called from C and Python"
 	@echo "make test-bindings          the wrapper for C++, the package for Python, the crate for Rust"

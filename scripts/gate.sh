@@ -4,9 +4,9 @@
 # it every test runs without a proof (tests/unit.sh). The last line is 'N passed, M failed', of all this together.
 #
 # Of the edits, crates/NAME/edits/*.edit, those of a crate are tried unless its line in edits.txt fits: the sum of all that they were
-# tried on. `edits` tries all, runs no test, and writes that file; nothing else may, and its last line tells where something has.
+# tried on. `edits` runs no test, and writes that file; nothing else may, and its last line tells where something has.
 #
-# usage: sh scripts/gate.sh [edits [CRATE..]]       ANEW=1: as if nothing had been proved on this machine
+# usage: sh scripts/gate.sh [edits [CRATE..]]       ANEW=1: as if nothing had been proved or tried before
 #     edits CRATE..: tries those of these crates alone, over what `rt check` kept, and writes nothing
 #
 # The crates are copied to build/gate, without tests and without edits that need not be tried, and what was built there is moved to
@@ -63,8 +63,12 @@ sum_of() {
 
 # The file of what was tried: a line 'CRATE EDITS DATE SUM' for each crate, and last the sum of all lines before.
 written=$(sed '$d' edits.txt 2> /dev/null | sha256sum | cut -d ' ' -f 1)
-if [ "$mode" != edits ] && [ -e edits.txt ] && [ "$(tail -n 1 edits.txt)" != "sum $written" ]; then
-    stop 'edits.txt is not as make edits wrote it: run make edits'
+before=edits.txt
+if [ -n "${ANEW:-}" ] && [ "$mode" = edits ]; then
+    before=/dev/null
+elif [ -e edits.txt ] && [ "$(tail -n 1 edits.txt)" != "sum $written" ]; then
+    [ "$mode" = edits ] || stop 'edits.txt is not as make edits wrote it: run make edits'
+    before=/dev/null
 fi
 tried='' all=0
 for crate in $proved; do
@@ -78,7 +82,7 @@ for crate in $proved; do
     echo "$line" >> "$gate/lines"
     if [ $# -gt 0 ]; then
         case " $* " in *" $crate "*) tried="$tried $crate" ;; esac
-    elif [ "$mode" = edits ] || ! awk '{ print $1, $2, $4 }' edits.txt 2> /dev/null | grep -qxF "$line"; then
+    elif ! awk '{ print $1, $2, $4 }' "$before" 2> /dev/null | grep -qxF "$line"; then
         tried="$tried $crate"
     fi
 done
@@ -137,7 +141,11 @@ if [ "$mode" = edits ] && [ "$failed" = 0 ]; then
     {
         echo '# The must-fail edits that were tried and rejected: crate, how many, when, and the sum of all that they were tried on.'
         echo '# Written by "make edits" alone.'
-        while read -r crate edits sum; do echo "$crate $edits $(date -u +%F) $sum"; done < "$gate/lines"
+        while read -r crate edits sum; do
+            day=$(date -u +%F)
+            case " $tried " in *" $crate "*) ;; *) day=$(awk -v crate="$crate" '$1 == crate { print $3 }' "$before") ;; esac
+            echo "$crate $edits $day $sum"
+        done < "$gate/lines"
     } > "$gate/edits.txt"
     echo "sum $(sha256sum < "$gate/edits.txt" | cut -d ' ' -f 1)" >> "$gate/edits.txt"
     mv "$gate/edits.txt" edits.txt
