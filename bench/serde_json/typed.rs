@@ -2,7 +2,7 @@
 use serde::Deserialize;
 
 #[derive(Deserialize)]
-struct Line<S> {
+pub struct Line<S> {
     time: u64,
     level: S,
     host: S,
@@ -15,7 +15,7 @@ struct Line<S> {
 }
 
 #[derive(Deserialize)]
-struct Timeline<S> {
+pub struct Timeline<S> {
     statuses: Vec<Tweet<S>>,
 }
 
@@ -37,7 +37,7 @@ struct User<S> {
 }
 
 #[derive(Deserialize)]
-struct Map {
+pub struct Map {
     features: Vec<Feature>,
 }
 
@@ -51,7 +51,7 @@ struct Geometry {
     coordinates: Vec<Vec<(f64, f64)>>,
 }
 
-trait Sum {
+pub trait Sum {
     fn sum(&self) -> u64;
 }
 

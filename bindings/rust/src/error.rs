@@ -1,4 +1,5 @@
 //! Why an input is rejected, and where.
+use crate::ffi::located;
 use std::fmt;
 
 macro_rules! kinds {
@@ -88,6 +89,60 @@ impl Error {
     /// The byte there, as a character; `None` for an error of the whole input.
     pub fn character(&self) -> Option<char> {
         self.character
+    }
+
+    /// Where and why, for people. `input` is the bytes as they were before the parse, which has overwritten them.
+    ///
+    /// ```
+    /// let input = b"{\n  \"tags\": [1,]\n}";
+    /// let error = simd_json_proved::check(input).unwrap_err();
+    /// assert_eq!(error.location(input)?.to_string(), "2:14: expected a value, found `]`");
+    /// # Ok::<(), simd_json_proved::Error>(())
+    /// ```
+    ///
+    /// # Errors
+    ///
+    /// `OutOfMemory` if an allocation fails.
+    pub fn location(&self, input: &[u8]) -> Result<Location, Error> {
+        located(input, self)
+    }
+}
+
+/// Where and why an input is rejected: [`Error::location`].
+#[derive(Clone, Debug, PartialEq, Eq)]
+pub struct Location {
+    pub(crate) byte: usize,
+    pub(crate) line: usize,
+    pub(crate) column: usize,
+    pub(crate) reason: String,
+}
+
+impl Location {
+    /// The index in bytes: that of the error, but of more text after a document that of this text, and of an error of the whole
+    /// input that of the bytes which are wrong.
+    pub fn byte(&self) -> usize {
+        self.byte
+    }
+
+    /// The line, by line feeds, from 1.
+    pub fn line(&self) -> usize {
+        self.line
+    }
+
+    /// The column, in characters, from 1.
+    pub fn column(&self) -> usize {
+        self.column
+    }
+
+    /// The reason, as "expected a value, found `]`".
+    pub fn reason(&self) -> &str {
+        &self.reason
+    }
+}
+
+impl fmt::Display for Location {
+    fn fmt(&self, f: &mut fmt::Formatter<'_>) -> fmt::Result {
+        write!(f, "{}:{}: {}", self.line, self.column, self.reason)
     }
 }
 

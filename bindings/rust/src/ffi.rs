@@ -1,8 +1,8 @@
 //! The calls of the library: all that is `unsafe` in this crate.
-use crate::error::{Error, ErrorType};
-use crate::value::Tape;
+use crate::error::{Error, ErrorType, Location};
+use crate::value::{Tape, Value};
 use std::ffi::c_void;
-use std::{ptr, slice, str};
+use std::{fmt, ptr, slice, str};
 
 /// A node as the library writes it; `include/simd_json.h` says what its fields are.
 #[repr(C)]
@@ -11,6 +11,20 @@ pub(crate) struct Node {
     pub(crate) kind: u32,
     pub(crate) len: u32,
     pub(crate) value: u64,
+}
+
+#[cfg(feature = "serde")]
+impl Node {
+    pub(crate) const NULL: u32 = 0;
+    pub(crate) const BOOL: u32 = 1;
+    pub(crate) const I64: u32 = 2;
+    pub(crate) const U64: u32 = 3;
+    pub(crate) const I128: u32 = 4;
+    pub(crate) const U128: u32 = 5;
+    pub(crate) const DECIMAL: u32 = 6;
+    pub(crate) const STRING: u32 = 7;
+    pub(crate) const ARRAY: u32 = 8;
+    pub(crate) const OBJECT: u32 = 9;
 }
 
 #[repr(C)]
@@ -23,6 +37,21 @@ struct Parser {
 struct Place {
     index: usize,
     character: u32,
+}
+
+const NO_PLACE: Place = Place { index: 0, character: u32::MAX };
+
+#[repr(C)]
+struct Position {
+    byte: usize,
+    line: usize,
+    column: usize,
+}
+
+#[repr(C)]
+struct Found {
+    kind: u32,
+    len: usize,
 }
 
 /// What a parse lends: memory of the parser, until its next call.
@@ -39,21 +68,55 @@ unsafe impl Send for Document {}
 unsafe impl Sync for Document {}
 
 impl Document {
-    pub(crate) fn nodes(&self) -> &[Node] {
-        // SAFETY: the library lends so many nodes, at least one. A `Tape` has borrowed the parser, or owns it and calls it no more.
-        unsafe { slice::from_raw_parts(self.nodes, self.nodes_len) }
+    /// The value of the document. A `Tape` has borrowed the parser, or owns it and calls it no more.
+    pub(crate) fn value(&self) -> Value<'_> {
+        // SAFETY: so what is lent stays while the tape is borrowed.
+        unsafe { Value::new(self.lent_nodes(), self.lent_text()) }
     }
 
-    pub(crate) fn text(&self) -> &str {
+    // The library lends so many nodes, at least one, until the next call with the parser.
+    unsafe fn lent_nodes<'a>(&self) -> &'a [Node] {
+        slice::from_raw_parts(self.nodes, self.nodes_len)
+    }
+
+    // And so many bytes: strings and literals of a document, one after another, each of which is UTF-8.
+    unsafe fn lent_text<'a>(&self) -> &'a str {
         if self.text_len == 0 {
             return "";
         }
-        // SAFETY: so many bytes are lent, as above: strings and literals of a document, one after another, each of which is UTF-8.
-        unsafe { str::from_utf8_unchecked(slice::from_raw_parts(self.text, self.text_len)) }
+        str::from_utf8_unchecked(slice::from_raw_parts(self.text, self.text_len))
     }
 }
 
+impl Document {
+    const NONE: Document = Document { nodes: ptr::null(), nodes_len: 0, text: ptr::null(), text_len: 0 };
+}
+
+const OK: i32 = 0;
+const TOO_LITTLE_ROOM: i32 = 19;
+const REASON_MAX: usize = 64;
+
 extern "C" {
+    fn simd_json_check(input: *const u8, len: usize, max_depth: usize, place: *mut Place) -> i32;
+    #[cfg(feature = "serde")]
+    fn simd_json_index(
+        input: *const u8,
+        len: usize,
+        indexes: *mut u32,
+        indexes_len: usize,
+        used: *mut usize,
+        place: *mut Place,
+    ) -> i32;
+    fn simd_json_location(
+        input: *const u8,
+        len: usize,
+        status: i32,
+        place: *const Place,
+        position: *mut Position,
+        out: *mut u8,
+        out_len: usize,
+        needed: *mut usize,
+    ) -> i32;
     fn simd_json_open(parser: *mut Parser, max_depth: usize) -> i32;
     fn simd_json_close(parser: *mut Parser);
     fn simd_json_parser_check(parser: *mut Parser, input: *const u8, len: usize, place: *mut Place) -> i32;
@@ -63,6 +126,15 @@ extern "C" {
         len: usize,
         document: *mut Document,
         place: *mut Place,
+    ) -> i32;
+    fn simd_json_parser_index(parser: *mut Parser, input: *const u8, len: usize, place: *mut Place) -> i32;
+    fn simd_json_parser_find(
+        parser: *mut Parser,
+        pointer: *const u8,
+        pointer_len: usize,
+        found: *mut Found,
+        out: *mut u8,
+        out_len: usize,
     ) -> i32;
     fn simd_json_pointer(
         nodes: *const Node,
@@ -93,17 +165,96 @@ pub(crate) fn pointed(nodes: &[Node], text: &str, pointer: &str) -> Option<usize
     (index < nodes.len()).then_some(index)
 }
 
+/// The place and the reason of an error in the input that it is of.
+pub(crate) fn located(input: &[u8], error: &Error) -> Result<Location, Error> {
+    let place = Place { index: error.index, character: error.character.map_or(u32::MAX, u32::from) };
+    let mut position = Position { byte: 0, line: 0, column: 0 };
+    let (mut reason, mut needed) = ([0; REASON_MAX], 0);
+    // SAFETY: the input is only read, and the rest written, until the call returns.
+    let status = unsafe {
+        simd_json_location(
+            input.as_ptr(),
+            input.len(),
+            error.kind as i32,
+            &place,
+            &mut position,
+            reason.as_mut_ptr(),
+            reason.len(),
+            &mut needed,
+        )
+    };
+    if status != OK {
+        return Err(OUT_OF_MEMORY);
+    }
+    let Position { byte, line, column } = position;
+    let reason = String::from_utf8_lossy(&reason[..needed]).into_owned();
+    Ok(Location { byte, line, column, reason })
+}
+
+/// The structural indexes of an input; `None` if it has none, or memory is lacking.
+#[cfg(feature = "serde")]
+pub(crate) fn indexes(input: &[u8]) -> Option<Vec<u32>> {
+    let (mut indexes, mut used, mut place) = (Vec::new(), 0, NO_PLACE);
+    indexes.try_reserve_exact(input.len()).ok()?;
+    indexes.resize(input.len(), 0);
+    // SAFETY: the input is only read, and the indexes written, until the call returns.
+    let status = unsafe {
+        simd_json_index(
+            input.as_ptr(),
+            input.len(),
+            indexes.as_mut_ptr(),
+            indexes.len(),
+            &mut used,
+            &mut place,
+        )
+    };
+    indexes.truncate(used);
+    (status == OK).then_some(indexes)
+}
+
+/// Checks that the input is a document with at most 1,024 open containers, and leaves it as it is.
+///
+/// # Errors
+///
+/// The first error of the input, with its kind, index and character.
+pub fn check(input: &[u8]) -> Result<(), Error> {
+    let mut place = NO_PLACE;
+    // SAFETY: the input is only read, until the call returns.
+    let status = unsafe { simd_json_check(input.as_ptr(), input.len(), MAX_DEPTH, &mut place) };
+    result_of(status, &place)
+}
+
+const MAX_DEPTH: usize = 1024;
+
 const OUT_OF_MEMORY: Error = Error { kind: ErrorType::OutOfMemory, index: 0, character: None };
 
-fn error_of(status: i32, place: &Place) -> Error {
+fn result_of(status: i32, place: &Place) -> Result<(), Error> {
+    if status == OK {
+        return Ok(());
+    }
     // The library returns no other status here: PARSER_CLOSED is excluded by how it is called.
     let kind = ErrorType::of_status(status).unwrap_or(ErrorType::InternalError);
-    Error { kind, index: place.index, character: char::from_u32(place.character) }
+    Err(Error { kind, index: place.index, character: char::from_u32(place.character) })
 }
 
 /// The memory of a parser, which is kept from one input to the next.
+///
+/// `Buffers::default()` takes memory with the first input, for at most 1,024 open containers.
+///
+/// What is lent ends with the next call, so this does not compile:
+///
+/// ```compile_fail,E0499
+/// let mut buffers = simd_json_proved::Buffers::default();
+/// let first = buffers.parse(&mut b"[1]".to_vec()).unwrap();
+/// let second = buffers.parse(&mut b"[2]".to_vec()).unwrap();
+/// println!("{first}");
+/// ```
 pub struct Buffers {
+    // closed before the first input of a default
     parser: Parser,
+    max_depth: usize,
+    // what is parsed where the input may not be overwritten, at the front
+    copy: Vec<u8>,
 }
 
 // SAFETY: what `at` points to is this parser's alone, the library keeps nothing that belongs to a thread, and no call takes a
@@ -118,7 +269,7 @@ impl Buffers {
     ///
     /// `OutOfMemory` if an allocation fails.
     pub fn new() -> Result<Buffers, Error> {
-        Buffers::with_max_depth(1024)
+        Buffers::with_max_depth(MAX_DEPTH)
     }
 
     /// Memory for inputs with at most `max_depth` open containers.
@@ -127,10 +278,22 @@ impl Buffers {
     ///
     /// `OutOfMemory` if an allocation fails.
     pub fn with_max_depth(max_depth: usize) -> Result<Buffers, Error> {
-        let mut parser = Parser { at: ptr::null_mut(), is_open: 0 };
-        // SAFETY: a parser of zeros is closed, as the call wants it.
-        match unsafe { simd_json_open(&mut parser, max_depth) } {
-            0 => Ok(Buffers { parser }),
+        let mut buffers = Buffers::closed(max_depth);
+        buffers.open()?;
+        Ok(buffers)
+    }
+
+    fn closed(max_depth: usize) -> Buffers {
+        Buffers { parser: Parser { at: ptr::null_mut(), is_open: 0 }, max_depth, copy: Vec::new() }
+    }
+
+    fn open(&mut self) -> Result<(), Error> {
+        if self.parser.is_open != 0 {
+            return Ok(());
+        }
+        // SAFETY: the parser is closed, as the call wants it.
+        match unsafe { simd_json_open(&mut self.parser, self.max_depth) } {
+            OK => Ok(()),
             _ => Err(OUT_OF_MEMORY),
         }
     }
@@ -145,17 +308,42 @@ impl Buffers {
     }
 
     pub(crate) fn document(&mut self, input: &mut [u8]) -> Result<Document, Error> {
-        let mut document = Document { nodes: ptr::null(), nodes_len: 0, text: ptr::null(), text_len: 0 };
-        let mut place = Place { index: 0, character: u32::MAX };
-        // SAFETY: the parser is open, and the input is borrowed for writing until the call returns.
-        let status = unsafe {
-            simd_json_parser_parse(&mut self.parser, input.as_mut_ptr(), input.len(), &mut document, &mut place)
-        };
-        if status == 0 {
-            Ok(document)
-        } else {
-            Err(error_of(status, &place))
+        self.open()?;
+        // SAFETY: the input is borrowed for writing until the call returns.
+        unsafe { self.document_at(input.as_mut_ptr(), input.len()) }
+    }
+
+    // The parser is open, and so many bytes may be written.
+    unsafe fn document_at(&mut self, input: *mut u8, len: usize) -> Result<Document, Error> {
+        let (mut document, mut place) = (Document::NONE, NO_PLACE);
+        let status = simd_json_parser_parse(&mut self.parser, input, len, &mut document, &mut place);
+        result_of(status, &place)?;
+        Ok(document)
+    }
+
+    /// The value of an input that is left as it is, since a copy is parsed.
+    #[cfg(feature = "serde")]
+    pub(crate) fn value(&mut self, input: &[u8]) -> Result<Value<'_>, Error> {
+        self.reserve(input.len())?;
+        self.copy[..input.len()].copy_from_slice(input);
+        self.value_of_copy(input.len())
+    }
+
+    fn reserve(&mut self, len: usize) -> Result<(), Error> {
+        if self.copy.len() < len {
+            self.copy.try_reserve(len - self.copy.len()).map_err(|_| OUT_OF_MEMORY)?;
+            self.copy.resize(len, 0);
         }
+        Ok(())
+    }
+
+    fn value_of_copy(&mut self, len: usize) -> Result<Value<'_>, Error> {
+        self.open()?;
+        let input = self.copy[..len].as_mut_ptr();
+        // SAFETY: the parser is open, and the copy its own.
+        let document = unsafe { self.document_at(input, len)? };
+        // SAFETY: what is lent stays until the next call, for which the parser must be borrowed again.
+        Ok(unsafe { Value::new(document.lent_nodes(), document.lent_text()) })
     }
 
     /// Checks that the input is a document, and leaves it as it is.
@@ -164,20 +352,106 @@ impl Buffers {
     ///
     /// The first error of the input, with its kind, index and character.
     pub fn check(&mut self, input: &[u8]) -> Result<(), Error> {
-        let mut place = Place { index: 0, character: u32::MAX };
+        self.open()?;
+        let mut place = NO_PLACE;
         // SAFETY: the parser is open, and the input is borrowed until the call returns, which only reads it.
         let status = unsafe { simd_json_parser_check(&mut self.parser, input.as_ptr(), input.len(), &mut place) };
-        if status == 0 {
-            Ok(())
-        } else {
-            Err(error_of(status, &place))
+        result_of(status, &place)
+    }
+
+    /// Keeps a copy of an input with its structural indexes, for [`Index::find`].
+    ///
+    /// # Errors
+    ///
+    /// An error of the whole input: its size, its encoding, or a string that has no end or holds a byte below 0x20. That
+    /// it is a document is not checked.
+    pub fn index(&mut self, input: &[u8]) -> Result<Index<'_>, Error> {
+        self.open()?;
+        let mut place = NO_PLACE;
+        // SAFETY: the parser is open, and the input is borrowed until the call returns, which only reads it.
+        let status = unsafe { simd_json_parser_index(&mut self.parser, input.as_ptr(), input.len(), &mut place) };
+        result_of(status, &place)?;
+        Ok(Index { buffers: self })
+    }
+
+    // How long the value is that a pointer names in the input that is kept: it is at the front of `copy` then, as it is written.
+    fn find(&mut self, pointer: &str) -> Result<Option<usize>, Error> {
+        loop {
+            let mut found = Found { kind: 0, len: 0 };
+            // SAFETY: the pointer is only read, and the copy written, until the call returns.
+            let status = unsafe {
+                simd_json_parser_find(
+                    &mut self.parser,
+                    pointer.as_ptr(),
+                    pointer.len(),
+                    &mut found,
+                    self.copy.as_mut_ptr(),
+                    self.copy.len(),
+                )
+            };
+            match status {
+                OK => return Ok(Some(found.len)),
+                TOO_LITTLE_ROOM => self.reserve(found.len)?,
+                _ => return Ok(None),
+            }
         }
+    }
+}
+
+/// An input whose values are found on demand, without nodes: [`Buffers::index`].
+///
+/// ```
+/// let mut buffers = simd_json_proved::Buffers::default();
+/// let mut index = buffers.index(br#"{"user":{"id":7},"tags":["a"]}"#)?;
+/// assert_eq!(index.find("/user/id")?.and_then(|value| value.as_u64()), Some(7));
+/// assert!(index.find("/user/name")?.is_none());
+/// # Ok::<(), simd_json_proved::Error>(())
+/// ```
+///
+/// A value ends with the next call, so this does not compile:
+///
+/// ```compile_fail,E0499
+/// let mut buffers = simd_json_proved::Buffers::default();
+/// let mut index = buffers.index(b"[1,2]").unwrap();
+/// let first = index.find("/0").unwrap();
+/// let second = index.find("/1").unwrap();
+/// println!("{first:?}");
+/// ```
+#[derive(Debug)]
+pub struct Index<'buffers> {
+    buffers: &'buffers mut Buffers,
+}
+
+impl Index<'_> {
+    /// The value that a JSON Pointer (RFC 6901) names, or `None`. Only what lies on the way to it, and the value, is checked:
+    /// where the input is no document, a value may be found all the same.
+    ///
+    /// # Errors
+    ///
+    /// The first error of the value, whose index is from its first byte on.
+    pub fn find(&mut self, pointer: &str) -> Result<Option<Value<'_>>, Error> {
+        match self.buffers.find(pointer)? {
+            Some(len) => self.buffers.value_of_copy(len).map(Some),
+            None => Ok(None),
+        }
+    }
+}
+
+impl Default for Buffers {
+    fn default() -> Buffers {
+        Buffers::closed(MAX_DEPTH)
+    }
+}
+
+impl fmt::Debug for Buffers {
+    fn fmt(&self, f: &mut fmt::Formatter<'_>) -> fmt::Result {
+        f.debug_struct("Buffers").field("max_depth", &self.max_depth).finish_non_exhaustive()
     }
 }
 
 impl Drop for Buffers {
     fn drop(&mut self) {
-        // SAFETY: the parser is open, and is not used afterwards.
+        // SAFETY: closing a closed parser does nothing, and this one is not used afterwards.
         unsafe { simd_json_close(&mut self.parser) }
     }
 }

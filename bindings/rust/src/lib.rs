@@ -1,30 +1,19 @@
-//! JSON (RFC 8259) by `libsimd_json`, a parser whose results are proved, with the names of `simd-json`'s tape.
-//!
-//! ```
-//! let mut input = *br#"{"the_answer": 42}"#;
-//! let tape = simd_json_proved::to_tape(&mut input)?;
-//! assert_eq!(tape.as_value().get("the_answer").and_then(|value| value.as_u64()), Some(42));
-//! # Ok::<(), simd_json_proved::Error>(())
-//! ```
-//!
-//! What is accepted, the nodes, the first error and its place are proved of the library. This crate is not: it reads the nodes that
-//! the library lends. Its only `unsafe` code is in the module `ffi`.
-//!
-//! | with `simd-json` | with this crate |
-//! |---|---|
-//! | `simd_json::to_tape(&mut input)?` | the same |
-//! | `Buffers::new(n)`, `fill_tape` | [`Buffers::new`], [`Buffers::parse`], whose tape borrows the buffers and not the input |
-//! | `value.as_f64()` of a parsed float | [`Value::as_f64`] converts the literal, which is kept: [`Value::as_decimal`] |
-//! | integers of 64 bits, more with `128bit` | always 128 bits |
-//!
-//! Of equal keys [`Value::get`] takes the first. At most 1,024 containers may be open at a time, or
-//! as many as [`Buffers::with_max_depth`] is given.
+#![cfg_attr(feature = "serde", doc = include_str!("../README.md"))]
+#![cfg_attr(not(feature = "serde"), doc = "JSON (RFC 8259) by `libsimd_json`, a parser whose results are proved.")]
+mod compare;
+#[cfg(feature = "serde")]
+mod de;
 mod error;
 mod ffi;
+mod print;
+#[cfg(feature = "serde")]
+mod ser;
 mod value;
 
-pub use error::{Error, ErrorType};
-pub use ffi::Buffers;
+#[cfg(feature = "serde")]
+pub use de::{from_slice, from_slice_with, from_str, ReadError};
+pub use error::{Error, ErrorType, Location};
+pub use ffi::{check, Buffers, Index};
 pub use value::{Array, Object, Tape, Value, ValueType};
 
 /// Parses a document into a tape. The input is overwritten: escapes are decoded in place, and afterwards its contents are
@@ -36,5 +25,26 @@ pub use value::{Array, Object, Tape, Value, ValueType};
 pub fn to_tape(input: &mut [u8]) -> Result<Tape<'_>, Error> {
     let mut buffers = Buffers::new()?;
     let document = buffers.document(input)?;
+    Ok(Tape::owned(document, buffers))
+}
+
+/// Parses a document into a tape that borrows nothing, and so may be returned from a function. The bytes are freed.
+///
+/// ```
+/// use simd_json_proved::{to_owned_tape, Error, Tape};
+///
+/// fn settings(text: String) -> Result<Tape<'static>, Error> {
+///     to_owned_tape(text)
+/// }
+/// assert_eq!(settings(r#"{"depth":3}"#.to_string())?.as_value().get("depth").unwrap(), 3);
+/// # Ok::<(), Error>(())
+/// ```
+///
+/// # Errors
+///
+/// The first error of the input, with its kind, index and character.
+pub fn to_owned_tape(input: impl Into<Vec<u8>>) -> Result<Tape<'static>, Error> {
+    let mut buffers = Buffers::new()?;
+    let document = buffers.document(&mut input.into())?;
     Ok(Tape::owned(document, buffers))
 }

@@ -1,6 +1,7 @@
 //! Values of a tape. A node of a container is followed by the nodes of its members; its `value` is how many they are.
 use crate::ffi::{pointed, Buffers, Document, Node};
 use std::fmt;
+use std::iter::FusedIterator;
 use std::marker::PhantomData;
 
 /// The kind of a value.
@@ -41,6 +42,15 @@ const KINDS: [ValueType; 10] = [
     ValueType::Object,
 ];
 
+macro_rules! integers {
+    ($($name:ident $type:ty,)*) => {$(
+        #[doc = concat!("The integer, if it fits `", stringify!($type), "`.")]
+        pub fn $name(self) -> Option<$type> {
+            self.as_i128().and_then(|number| <$type>::try_from(number).ok())
+        }
+    )*};
+}
+
 /// A parsed document: its nodes in preorder, and the texts of its strings and literals.
 pub struct Tape<'buffers> {
     document: Document,
@@ -60,12 +70,12 @@ impl<'buffers> Tape<'buffers> {
 
     /// The document as a value.
     pub fn as_value(&self) -> Value<'_> {
-        Value { nodes: self.document.nodes(), text: self.document.text() }
+        self.document.value()
     }
 
     /// How many nodes the document has: values and keys.
     pub fn node_count(&self) -> usize {
-        self.document.nodes().len()
+        self.as_value().nodes.len()
     }
 }
 
@@ -84,24 +94,46 @@ pub struct Value<'tape> {
 }
 
 impl<'tape> Value<'tape> {
+    /// The value of the first of the nodes, at least one.
+    pub(crate) fn new(nodes: &'tape [Node], text: &'tape str) -> Value<'tape> {
+        Value { nodes, text }
+    }
+
     fn node(self) -> &'tape Node {
         &self.nodes[0]
     }
 
-    // The value of the nodes from an index on.
-    fn at(self, index: usize) -> Value<'tape> {
+    /// The value of the nodes from an index on.
+    pub(crate) fn at(self, index: usize) -> Value<'tape> {
         Value { nodes: &self.nodes[index..], text: self.text }
     }
 
-    // How many nodes the value has.
-    fn count(self) -> usize {
+    /// How many nodes it has.
+    pub(crate) fn count(self) -> usize {
         match self.value_type() {
             ValueType::Array | ValueType::Object => 1 + self.node().value as usize,
             _ => 1,
         }
     }
 
-    fn literal(self) -> &'tape str {
+    /// Its nodes, and the text of the document.
+    #[cfg(feature = "serde")]
+    pub(crate) fn parts(self) -> (&'tape [Node], &'tape str) {
+        (&self.nodes[..self.count()], self.text)
+    }
+
+    /// Its nodes, each as a value: of an object the keys too.
+    pub(crate) fn preorder(self) -> impl Iterator<Item = Value<'tape>> {
+        (0..self.count()).map(move |index| self.at(index))
+    }
+
+    /// How many elements or pairs it has, or of a text how many bytes.
+    pub(crate) fn node_len(self) -> usize {
+        self.node().len as usize
+    }
+
+    /// The text of a string, of a key, or of a number beyond 64 bits.
+    pub(crate) fn literal(self) -> &'tape str {
         let node = self.node();
         &self.text[node.value as usize..node.value as usize + node.len as usize]
     }
@@ -139,26 +171,28 @@ impl<'tape> Value<'tape> {
         }
     }
 
-    /// The integer, if it fits `i64`.
-    pub fn as_i64(self) -> Option<i64> {
-        self.as_i128().and_then(|number| i64::try_from(number).ok())
-    }
-
-    /// The integer, if it fits `u64`.
-    pub fn as_u64(self) -> Option<u64> {
-        self.as_i128().and_then(|number| u64::try_from(number).ok())
-    }
-
-    /// The integer, if it fits `usize`.
-    pub fn as_usize(self) -> Option<usize> {
-        self.as_u64().and_then(|number| usize::try_from(number).ok())
+    integers! {
+        as_i8 i8, as_i16 i16, as_i32 i32, as_i64 i64, as_isize isize,
+        as_u8 u8, as_u16 u16, as_u32 u32, as_u64 u64, as_usize usize,
     }
 
     /// The number as the nearest float, infinite where it is past the greatest; `None` if it is no number.
     pub fn as_f64(self) -> Option<f64> {
         match self.value_type() {
+            ValueType::I64 => Some(self.node().value as i64 as f64),
+            ValueType::U64 => Some(self.node().value as f64),
             ValueType::I128 | ValueType::U128 | ValueType::Decimal => self.literal().parse().ok(),
-            _ => self.as_i128().map(|number| number as f64),
+            _ => None,
+        }
+    }
+
+    /// The number as the nearest `f32`, by one rounding; infinite where it is past the greatest.
+    pub fn as_f32(self) -> Option<f32> {
+        match self.value_type() {
+            ValueType::I64 => Some(self.node().value as i64 as f32),
+            ValueType::U64 => Some(self.node().value as f32),
+            ValueType::I128 | ValueType::U128 | ValueType::Decimal => self.literal().parse().ok(),
+            _ => None,
         }
     }
 
@@ -253,6 +287,8 @@ impl<'tape> Iterator for Array<'tape> {
 
 impl ExactSizeIterator for Array<'_> {}
 
+impl FusedIterator for Array<'_> {}
+
 /// The members of an object that are left, each a key and a value.
 #[derive(Clone, Copy)]
 pub struct Object<'tape> {
@@ -285,3 +321,5 @@ impl<'tape> Iterator for Object<'tape> {
 }
 
 impl ExactSizeIterator for Object<'_> {}
+
+impl FusedIterator for Object<'_> {}

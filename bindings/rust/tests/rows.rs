@@ -1,5 +1,5 @@
 //! The rows of tests/vectors, whose answers are in the files.
-use simd_json_proved::{to_tape, Buffers, ErrorType, Value, ValueType};
+use simd_json_proved::{check, to_owned_tape, to_tape, Buffers, ErrorType, Tape, Value, ValueType};
 use std::fs;
 use std::path::Path;
 
@@ -100,18 +100,34 @@ fn answer(input: &mut [u8], limit: usize) -> String {
 fn judge_pointer(document: &[u8], pointer: &[u8], wanted: &str, row: &str) {
     let mut input = document.to_vec();
     let tape = to_tape(&mut input).unwrap();
-    let found = tape.as_value().pointer(std::str::from_utf8(pointer).unwrap());
-    if wanted.starts_with("! ") {
-        assert!(found.is_none(), "{row}");
-    } else {
-        let mut text = decoded(wanted.as_bytes());
-        assert_eq!(nodes(found.unwrap()), nodes(to_tape(&mut text).unwrap().as_value()), "{row}");
+    let pointer = std::str::from_utf8(pointer).unwrap();
+    let mut buffers = Buffers::default();
+    let mut index = buffers.index(document).unwrap();
+    for found in [tape.as_value().pointer(pointer), index.find(pointer).unwrap()] {
+        if wanted.starts_with("! ") {
+            assert!(found.is_none(), "{row}");
+        } else {
+            let mut text = decoded(wanted.as_bytes());
+            assert_eq!(nodes(found.unwrap()), nodes(to_tape(&mut text).unwrap().as_value()), "{row}");
+        }
+    }
+}
+
+// The place of an error, as the rows of `locate` have it, of a parse and of a check.
+fn judge_place(input: &[u8], limit: usize, wanted: &str, row: &str) {
+    let mut buffers = Buffers::with_max_depth(limit).unwrap();
+    for result in [buffers.check(input), buffers.parse(&mut input.to_vec()).map(drop)] {
+        let found = match result {
+            Ok(()) => "none".to_string(),
+            Err(error) => error.location(input).map(|at| format!("{} {at}", at.byte())).unwrap(),
+        };
+        assert_eq!(shown(&found), wanted, "{row}");
     }
 }
 
 fn judge_rows() {
     let folder = Path::new(env!("CARGO_MANIFEST_DIR")).join("../../tests/vectors");
-    let (mut judged, mut pointers, mut document) = (0, 0, Vec::new());
+    let (mut judged, mut pointers, mut printed_rows, mut places, mut document) = (0, 0, 0, 0, Vec::new());
     for file in fs::read_dir(folder).unwrap() {
         for row in fs::read_to_string(file.unwrap().path()).unwrap().lines() {
             if let Some(text) = row.strip_prefix("document ") {
@@ -132,6 +148,17 @@ fn judge_rows() {
                 }
                 judged += 1;
             }
+            if word == "compact" || word == "pretty" {
+                let tape = to_owned_tape(decoded(text.as_bytes())).unwrap();
+                let value = tape.as_value();
+                let printed = if word == "pretty" { format!("{value:#}") } else { value.to_string() };
+                assert_eq!(shown(&printed), wanted, "{row}");
+                printed_rows += 1;
+            }
+            if word == "locate" {
+                judge_place(&decoded(text.as_bytes()), limit.parse().unwrap(), wanted, row);
+                places += 1;
+            }
             if word == "pointer" {
                 judge_pointer(&document, &decoded(text.as_bytes()), wanted, row);
                 pointers += 1;
@@ -139,6 +166,7 @@ fn judge_rows() {
         }
     }
     assert!(judged > 100 && pointers > 100, "{judged} rows, {pointers} pointers");
+    assert!(printed_rows > 30 && places > 50, "{printed_rows} printed rows, {places} places");
 }
 
 #[test]
@@ -242,4 +270,70 @@ fn errors() {
     assert_eq!(to_tape(&mut [0xff]).unwrap_err().to_string(), "InvalidUtf8 at character 0");
     assert_eq!(to_tape(&mut b"[[]]".to_vec()).unwrap().node_count(), 2);
     assert_eq!(Buffers::with_max_depth(1).unwrap().parse(&mut b"[[]]".to_vec()).unwrap_err().index(), 1);
+}
+
+#[test]
+fn integers_of_each_width() {
+    let tape = to_owned_tape("[127,-129,256,-1,65535,4294967295,-2147483648,9223372036854775808]").unwrap();
+    let at = |index| tape.as_value().get_idx(index).unwrap();
+    assert_eq!((at(0).as_i8(), at(1).as_i8(), at(1).as_i16()), (Some(127), None, Some(-129)));
+    assert_eq!((at(0).as_u8(), at(2).as_u8(), at(2).as_u16(), at(3).as_u8()), (Some(127), None, Some(256), None));
+    assert_eq!((at(4).as_u16(), at(4).as_i16(), at(5).as_u32(), at(5).as_i32()), (Some(65535), None, Some(u32::MAX), None));
+    assert_eq!((at(6).as_i32(), at(6).as_isize(), at(6).as_usize()), (Some(i32::MIN), Some(i32::MIN as isize), None));
+    assert_eq!((at(7).as_i64(), at(7).as_u64(), at(7).as_i128()), (None, Some(1 << 63), Some(1 << 63)));
+    // By one rounding: as an `f64` it is halfway between two of `f32`.
+    let near = to_owned_tape("16777217.00000000000000000001").unwrap();
+    assert_eq!((near.as_value().as_f32(), near.as_value().as_f64()), (Some(16777218.0), Some(16777217.0)));
+}
+
+#[test]
+fn values_are_compared() {
+    let tape = to_owned_tape(r#"["a\u00e9",7,-7,2.50,true,null,340282366920938463463374607431768211455,[7]]"#).unwrap();
+    let at = |index| tape.as_value().get_idx(index).unwrap();
+    let owned = String::from("aé");
+    assert!(at(0) == "aé" && *"aé" == at(0) && at(0) == owned && owned == at(0) && at(0) != "a" && at(0) != 7);
+    assert!(at(1) == 7 && 7u8 == at(1) && at(1) == 7i128 && at(1) == 7.0 && at(1) != -7 && at(1) != true && at(1) != "7");
+    assert!(at(2) == -7 && at(2) == -7f32 && at(2) != u64::MAX - 6 && at(3) == 2.5 && at(3) != 2);
+    assert!(at(4) == true && at(4) != false && at(4) != 1 && at(5) != false && at(5) != 0 && at(5) != "");
+    assert!(at(6) == u128::MAX && at(6) != -1 && at(6) != i128::MAX && at(7) != 7);
+    assert!(tape.as_value().pointer("/7/0").unwrap() == 7usize);
+}
+
+#[test]
+fn tapes_are_returned() {
+    fn of(text: &str) -> Result<Tape<'static>, simd_json_proved::Error> {
+        let bytes = text.to_string().into_bytes();
+        to_owned_tape(bytes)
+    }
+    let tapes: Vec<_> = ["[1]", r#"{"a":"\u00e9\n"}"#, "2.5"].into_iter().map(|text| of(text).unwrap()).collect();
+    let moved = std::thread::spawn(|| tapes).join().unwrap();
+    assert_eq!(moved[1].as_value().get("a").unwrap().as_str(), Some("é\n"));
+    assert_eq!((moved[0].to_string().as_str(), moved[2].as_value().as_f64()), ("[1]", Some(2.5)));
+    assert_eq!(of("[1").unwrap_err().error(), ErrorType::Syntax);
+}
+
+#[test]
+fn buffers_by_default() {
+    let mut buffers = Buffers::default();
+    assert_eq!(buffers.index(b"[\"").unwrap_err().error(), ErrorType::Syntax);
+    let mut index = buffers.index(br#"{"a":[1,"\u00e9"],"b":[1,,2]"#).unwrap();
+    assert!(index.find("/a/1").unwrap().unwrap() == "é");
+    assert!(index.find("").is_err());
+    assert_eq!(index.find("/b").unwrap_err().index(), 3);
+    assert_eq!(index.find("/a").unwrap().unwrap().as_array().unwrap().len(), 2);
+    assert!(index.find("/c").unwrap().is_none() && index.find("a").unwrap().is_none());
+    let long = format!("[[{}]]", "1,".repeat(100_000) + "2");
+    assert_eq!(buffers.index(long.as_bytes()).unwrap().find("/0/100000").unwrap().unwrap().as_u64(), Some(2));
+    assert_eq!(Buffers::default().parse(&mut b"[3]".to_vec()).unwrap().node_count(), 2);
+    assert_eq!(Buffers::default().check(&[b"[".repeat(1025), b"]".repeat(1025)].concat()).unwrap_err().index(), 1024);
+    assert_eq!(check(&[b"[".repeat(1025), b"]".repeat(1025)].concat()).unwrap_err().index(), 1024);
+    assert_eq!((check(b"[1]"), check(b"").unwrap_err().error()), (Ok(()), ErrorType::Eof));
+}
+
+#[test]
+fn depth_is_printed() {
+    let mut deep = [b"[".repeat(300_000), b"]".repeat(300_000)].concat();
+    let text = String::from_utf8(deep.clone()).unwrap();
+    let mut buffers = Buffers::with_max_depth(300_000).unwrap();
+    assert!(buffers.parse(&mut deep).unwrap().to_string() == text);
 }

@@ -1,0 +1,160 @@
+//! Types that derive `serde::Deserialize`, read from the nodes that a parse lends.
+mod error;
+mod key;
+mod reader;
+
+pub use error::ReadError;
+
+use crate::ffi::{Buffers, Index};
+use crate::value::Value;
+use reader::Reader;
+use serde::de::{Deserialize, DeserializeOwned, Deserializer, Visitor};
+
+/// Reads a document as a type, which owns what it holds. The input is left as it is, since a copy is parsed.
+///
+/// ```
+/// #[derive(serde::Deserialize)]
+/// struct Line {
+///     level: String,
+///     status: u16,
+/// }
+///
+/// let line: Line = simd_json_proved::from_slice(br#"{"level":"info","status":200}"#)?;
+/// assert_eq!((line.level.as_str(), line.status), ("info", 200));
+/// let error = simd_json_proved::from_slice::<Line>(br#"{"level":"info","status":"no"}"#).err().unwrap();
+/// assert_eq!(error.to_string(), "/status: invalid type: string \"no\", expected u16 at line 1 column 26");
+/// # Ok::<(), simd_json_proved::ReadError>(())
+/// ```
+///
+/// Nothing may be borrowed, so this does not compile:
+///
+/// ```compile_fail,E0277
+/// let text: &str = simd_json_proved::from_slice(br#""a""#).unwrap();
+/// ```
+///
+/// # Errors
+///
+/// The first error of the input; or how the document does not fit the type, with the path to the value.
+pub fn from_slice<T: DeserializeOwned>(input: &[u8]) -> Result<T, ReadError> {
+    from_slice_with(&mut Buffers::default(), input)
+}
+
+/// [`from_slice`] of a text.
+///
+/// # Errors
+///
+/// As those of [`from_slice`].
+pub fn from_str<T: DeserializeOwned>(input: &str) -> Result<T, ReadError> {
+    from_slice(input.as_bytes())
+}
+
+/// Reads a document as a type, in memory that is kept for the next. The type may borrow strings from this memory: a `&str` is
+/// borrowed with its escapes decoded, without a copy.
+///
+/// ```
+/// use simd_json_proved::{from_slice_with, Buffers};
+///
+/// #[derive(serde::Deserialize)]
+/// struct Line<'a> {
+///     level: &'a str,
+///     status: u16,
+/// }
+///
+/// let mut buffers = Buffers::default();
+/// for line in [r#"{"level":"info","status":200}"#, r#"{"level":"\u0065rror","status":500}"#] {
+///     let line: Line = from_slice_with(&mut buffers, line.as_bytes())?;
+///     assert_eq!(line.level == "error", line.status == 500);
+/// }
+/// # Ok::<(), simd_json_proved::ReadError>(())
+/// ```
+///
+/// What is borrowed ends with the next call, so this does not compile:
+///
+/// ```compile_fail,E0499
+/// let mut buffers = simd_json_proved::Buffers::default();
+/// let first: &str = simd_json_proved::from_slice_with(&mut buffers, br#""a""#).unwrap();
+/// let second: &str = simd_json_proved::from_slice_with(&mut buffers, br#""b""#).unwrap();
+/// println!("{first}");
+/// ```
+///
+/// # Errors
+///
+/// As those of [`from_slice`].
+pub fn from_slice_with<'b, T: Deserialize<'b>>(buffers: &'b mut Buffers, input: &[u8]) -> Result<T, ReadError> {
+    match buffers.value(input) {
+        Ok(value) => T::deserialize(&mut Reader::of(value)).map_err(|error| error.in_input(value, input)),
+        Err(error) => Err(ReadError::of_parse(error, input)),
+    }
+}
+
+impl Index<'_> {
+    /// The value that a JSON Pointer names, as [`Index::find`] has it, read as a type.
+    ///
+    /// # Errors
+    ///
+    /// Those of [`Index::find`]; or how the value does not fit the type, with the path from it on.
+    pub fn get<'i, T: Deserialize<'i>>(&'i mut self, pointer: &str) -> Result<Option<T>, ReadError> {
+        match self.find(pointer) {
+            Ok(Some(value)) => T::deserialize(value).map(Some),
+            Ok(None) => Ok(None),
+            Err(error) => Err(ReadError::of_parse(error, b"")),
+        }
+    }
+}
+
+impl<'de> Value<'de> {
+    fn read<T>(self, read: impl FnOnce(&mut Reader<'de>) -> Result<T, ReadError>) -> Result<T, ReadError> {
+        read(&mut Reader::of(self)).map_err(|error| error.beneath(self))
+    }
+}
+
+macro_rules! by_reader {
+    ($($method:ident($($arg:ident: $type:ty),*);)*) => {$(
+        fn $method<V: Visitor<'de>>(self, $($arg: $type,)* visitor: V) -> Result<V::Value, ReadError> {
+            self.read(|reader| reader.$method($($arg,)* visitor))
+        }
+    )*};
+}
+
+/// A type is read from a value by `T::deserialize(value)`.
+///
+/// An integer beyond 64 bits is an `i128` or a `u128`, or the nearest float where that is asked for; `-0` is the integer 0.
+/// A type that nests without end takes stack for each container that is open, of which there are at most as many as
+/// the [`Buffers`] allow.
+impl<'de> Deserializer<'de> for Value<'de> {
+    type Error = ReadError;
+
+    by_reader! {
+        deserialize_any();
+        deserialize_bool();
+        deserialize_i8();
+        deserialize_i16();
+        deserialize_i32();
+        deserialize_i64();
+        deserialize_i128();
+        deserialize_u8();
+        deserialize_u16();
+        deserialize_u32();
+        deserialize_u64();
+        deserialize_u128();
+        deserialize_f32();
+        deserialize_f64();
+        deserialize_char();
+        deserialize_str();
+        deserialize_string();
+        deserialize_bytes();
+        deserialize_byte_buf();
+        deserialize_option();
+        deserialize_unit();
+        deserialize_unit_struct(name: &'static str);
+        deserialize_newtype_struct(name: &'static str);
+        deserialize_seq();
+        deserialize_tuple(len: usize);
+        deserialize_tuple_struct(name: &'static str, len: usize);
+        deserialize_map();
+        deserialize_struct(name: &'static str, fields: &'static [&'static str]);
+        deserialize_enum(name: &'static str, variants: &'static [&'static str]);
+        deserialize_identifier();
+        deserialize_ignored_any();
+    }
+}
