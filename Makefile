@@ -162,12 +162,13 @@ install: install-library
 
 install-library:
 	test -e $(into)/libsimd_json.so || $(MAKE) library
-	install -d $(under)/include $(under)/lib/pkgconfig $(under)/share/man/man3
+	install -d $(under)/include $(under)/lib/pkgconfig $(under)/lib/cmake/simd_json $(under)/share/man/man3
 	install -m 644 include/simd_json.h include/simd_json.hpp $(under)/include/
 	install -m 644 $(into)/libsimd_json.a $(under)/lib/libsimd_json.a
 	install -m 755 $(into)/libsimd_json.so.$(version) $(under)/lib/
 	$(call links,$(under)/lib)
 	sed 's|@PREFIX@|$(abspath $(PREFIX))|; s|@VERSION@|$(version)|' simd_json.pc.in > $(under)/lib/pkgconfig/simd_json.pc
+	sed 's|@VERSION@|$(version)|; s|@MAJOR@|$(major)|' simd_json.cmake.in > $(under)/lib/cmake/simd_json/simd_jsonConfig.cmake
 	install -m 644 man/simd_json.3 $(under)/share/man/man3/simd_json.3
 
 uninstall:
@@ -176,6 +177,7 @@ uninstall:
 	rm -f $(addprefix $(completions)/,$(released))
 	rm -f $(under)/include/simd_json.h $(under)/include/simd_json.hpp $(under)/lib/libsimd_json.a \
 		$(under)/lib/libsimd_json.so $(under)/lib/libsimd_json.so.$(major) $(under)/lib/libsimd_json.so.$(version) $(under)/lib/pkgconfig/simd_json.pc $(under)/share/man/man3/simd_json.3
+	rm -rf $(under)/lib/cmake/simd_json
 
 has-rt:
 	@command -v rt >/dev/null || { echo "rt is not on the PATH: put the folder bin of a Rattle kit there, as in PATH=KIT/bin:\$$PATH, and run make again" >&2; exit 1; }

@@ -21,6 +21,7 @@
 #include <memory>
 #include <new>
 #include <optional>
+#include <ostream>
 #if __cplusplus >= 202002L && __has_include(<ranges>)
 #include <ranges>
 #endif
@@ -29,6 +30,7 @@
 #include <string_view>
 #include <type_traits>
 #include <utility>
+#include <vector>
 
 namespace simd_json {
 
@@ -192,6 +194,7 @@ public:
 private:
     template <bool> friend class members;
     friend class parser;
+    friend class printer;
 
     /* What a parser lends, and how many parses it has begun. */
     struct lent : simd_json_document {
@@ -311,6 +314,163 @@ inline std::optional<element> element::find(size_t index) const {
     return std::nullopt;
 }
 
+/* Whether a value is a scalar: a truth value, the integer, a number whose nearest double it is, the
+ * string without its escapes, or null. `root["id"] == 7`, and with `find` also where there may be
+ * none: `root.find("id") == 7`. */
+template <class T>
+inline constexpr bool is_scalar = std::is_arithmetic_v<T> || std::is_same_v<T, std::nullptr_t>
+                                  || std::is_convertible_v<const T &, std::string_view>;
+
+template <class T, std::enable_if_t<is_scalar<T>, int> = 0>
+bool operator==(const element &value, const T &scalar) {
+    if constexpr (std::is_same_v<T, std::nullptr_t>)
+        return value.is_null();
+    else if constexpr (std::is_same_v<T, bool>)
+        return value.as_bool() == scalar;
+    else if constexpr (std::is_floating_point_v<T>)
+        return value.as_double() == scalar;
+    else if constexpr (std::is_unsigned_v<T>)
+        return value.as_uint64() == scalar;
+    else if constexpr (std::is_integral_v<T>)
+        return value.as_int64() == scalar;
+    else
+        return value.as_string() == std::string_view(scalar);
+}
+template <class T, std::enable_if_t<is_scalar<T>, int> = 0>
+bool operator==(const T &scalar, const element &value) {
+    return value == scalar;
+}
+template <class T, std::enable_if_t<is_scalar<T>, int> = 0>
+bool operator!=(const element &value, const T &scalar) {
+    return !(value == scalar);
+}
+template <class T, std::enable_if_t<is_scalar<T>, int> = 0>
+bool operator!=(const T &scalar, const element &value) {
+    return !(value == scalar);
+}
+
+/* The text of a value, in the form of simd_json_parser_print. What is open is kept in a list, so
+ * that no depth ends a program. */
+class printer {
+public:
+    explicit printer(uint32_t layout) : is_pretty_(layout != SIMD_JSON_COMPACT) {}
+
+    std::string print(const element &value) {
+        const size_t count = simd_json_next(&value.node(), 0);
+        for (size_t i = 0; i < count; i++) {
+            separate();
+            put(value.ahead(i));
+            close();
+        }
+        return std::move(out_);
+    }
+
+private:
+    /* A container, and how many keys and values of it there are, and are left. */
+    struct open {
+        bool is_object;
+        size_t len, left;
+    };
+
+    void separate() {
+        if (open_.empty())
+            return;
+        open &in = open_.back();
+        const bool is_first = in.left == in.len, is_value = in.is_object && in.left % 2 == 1;
+        in.left--;
+        if (is_value) {
+            out_ += is_pretty_ ? ": " : ":";
+            return;
+        }
+        if (!is_first)
+            out_ += ',';
+        line();
+    }
+
+    void put(const element &value) {
+        const simd_json_node &node = value.node();
+        switch (node.kind) {
+        case SIMD_JSON_NULL:
+            out_ += "null";
+            break;
+        case SIMD_JSON_BOOL:
+            out_ += node.value != 0 ? "true" : "false";
+            break;
+        case SIMD_JSON_I64:
+            out_ += std::to_string(static_cast<int64_t>(node.value));
+            break;
+        case SIMD_JSON_U64:
+            out_ += std::to_string(node.value);
+            break;
+        case SIMD_JSON_STRING:
+            quote(value.text());
+            break;
+        case SIMD_JSON_ARRAY:
+        case SIMD_JSON_OBJECT:
+            begin(node);
+            break;
+        default:
+            out_ += value.text();
+        }
+    }
+
+    void begin(const simd_json_node &node) {
+        const bool is_object = node.kind == SIMD_JSON_OBJECT;
+        out_ += is_object ? '{' : '[';
+        if (node.len == 0) {
+            out_ += is_object ? '}' : ']';
+            return;
+        }
+        const size_t len = size_t(node.len) * (is_object ? 2 : 1);
+        open_.push_back({is_object, len, len});
+    }
+
+    void close() {
+        while (!open_.empty() && open_.back().left == 0) {
+            const bool is_object = open_.back().is_object;
+            open_.pop_back();
+            line();
+            out_ += is_object ? '}' : ']';
+        }
+    }
+
+    void line() {
+        if (is_pretty_) {
+            out_ += '\n';
+            out_.append(2 * open_.size(), ' ');
+        }
+    }
+
+    void quote(std::string_view text) {
+        static constexpr char hex[] = "0123456789abcdef";
+        static constexpr std::string_view escaped = "\"\\\b\f\n\r\t", letters = "\"\\bfnrt";
+        out_ += '"';
+        for (const char c : text) {
+            const size_t at = escaped.find(c);
+            if (at != escaped.npos)
+                (out_ += '\\') += letters[at];
+            else if (static_cast<unsigned char>(c) < 0x20)
+                ((out_ += "\\u00") += hex[c >> 4]) += hex[c & 15];
+            else
+                out_ += c;
+        }
+        out_ += '"';
+    }
+
+    const bool is_pretty_;
+    std::string out_;
+    std::vector<open> open_;
+};
+
+/* A value as a document: without whitespace, or SIMD_JSON_PRETTY. Numbers keep all their digits. */
+inline std::string to_string(const element &value, uint32_t layout = SIMD_JSON_COMPACT) {
+    return printer(layout).print(value);
+}
+
+inline std::ostream &operator<<(std::ostream &out, const element &value) {
+    return out << to_string(value);
+}
+
 /* A parser, which keeps its memory from one input to the next. One thread uses it at a time. It may
  * be moved, and the elements of its document with it; the one that it was moved from is closed, and
  * rejects each text with SIMD_JSON_PARSER_CLOSED. */
@@ -325,14 +485,9 @@ public:
      * parser's, so not that of a parser which is gone at once. */
     element parse(std::string_view text) & {
         std::string kept;
-        if (is_lent(text))
-            text = kept.assign(text);
+        own(text, kept);
         simd_json_place place;
-        const int32_t status = try_parse(text, place);
-        if (status == SIMD_JSON_OUT_OF_MEMORY)
-            throw std::bad_alloc();
-        if (status != SIMD_JSON_OK)
-            throw error(status, place, text);
+        check_status(try_parse(text, place), place, text);
         return root();
     }
     element parse(std::string_view) && = delete;
@@ -350,6 +505,83 @@ public:
         state_->copy(text);
         return state_->parse(text.size(), place);
     }
+
+    /* Throws the first error of a text that is no document, or std::bad_alloc. The text is checked
+     * where it is. The document that was parsed before is over, as after each call of these. */
+    void check(std::string_view text) {
+        std::string kept;
+        own(text, kept);
+        simd_json_place place;
+        check_status(try_check(text, place), place, text);
+    }
+    int32_t try_check(std::string_view text, simd_json_place &place) {
+        place = {0, SIMD_JSON_NO_CHARACTER};
+        if (!state_)
+            return SIMD_JSON_PARSER_CLOSED;
+        state_->forget();
+        return simd_json_parser_check(&state_->parser, text.data(), text.size(), &place);
+    }
+
+    /* The text of a document, or of the value in it that a JSON Pointer (RFC 6901) names, as
+     * simd_json_parser_print writes it, which is proved. Throws the first error of the text, or one
+     * of SIMD_JSON_NO_VALUE, or std::bad_alloc. */
+    std::string print(std::string_view text, std::string_view pointer = {},
+                      uint32_t layout = SIMD_JSON_COMPACT) {
+        std::string kept, kept_pointer, out;
+        own(text, kept);
+        own(pointer, kept_pointer);
+        simd_json_place place{0, SIMD_JSON_NO_CHARACTER};
+        size_t needed = text.size(); /* enough for compact text */
+        int32_t status = !state_                      ? SIMD_JSON_PARSER_CLOSED
+                         : text.size() > UINT32_MAX ? SIMD_JSON_INPUT_TOO_LARGE
+                                                    : SIMD_JSON_TOO_LITTLE_ROOM;
+        while (status == SIMD_JSON_TOO_LITTLE_ROOM) {
+            out.resize(needed);
+            state_->forget();
+            state_->copy(text);
+            status = simd_json_parser_print(&state_->parser, state_->input.get(), text.size(),
+                                            pointer.data(), pointer.size(), layout, out.data(),
+                                            out.size(), &needed, &place);
+        }
+        check_status(status, place, text);
+        out.resize(needed);
+        return out;
+    }
+
+    /* Values on demand: keeps a copy of the text, in place of the one before, for find(). Its size
+     * and encoding are checked, and that strings end and hold no byte below 0x20: throws such an
+     * error, or std::bad_alloc. That it is a document is not checked. */
+    void index(std::string_view text) {
+        std::string kept;
+        own(text, kept);
+        simd_json_place place{0, SIMD_JSON_NO_CHARACTER};
+        int32_t status = SIMD_JSON_PARSER_CLOSED;
+        if (state_) {
+            state_->forget();
+            status = simd_json_parser_index(&state_->parser, text.data(), text.size(), &place);
+        }
+        check_status(status, place, text);
+    }
+
+    /* The value that a JSON Pointer (RFC 6901) names in the text that is kept, or nothing: the
+     * parser's document, so it is valid until the next call. Only the value, and what lies on the
+     * way to it, is checked: where the rest is no document, it may be found all the same. Throws the
+     * first error of the value, whose places are from its first byte on, or std::bad_alloc. */
+    std::optional<element> find(std::string_view pointer) & {
+        std::string kept;
+        own(pointer, kept);
+        const std::optional<size_t> len = state_ ? state_->find(pointer) : std::nullopt;
+        if (!len)
+            return std::nullopt;
+        simd_json_place place;
+        const int32_t status = state_->parse(*len, place);
+        if (status != SIMD_JSON_OK) { /* which has overwritten the text */
+            state_->find(pointer);
+            check_status(status, place, {state_->input.get(), *len});
+        }
+        return root();
+    }
+    std::optional<element> find(std::string_view) && = delete;
 
     /* The document that was parsed last. Throws std::logic_error where none was, or it was
      * rejected. */
@@ -372,13 +604,30 @@ private:
         state(const state &) = delete;
         state &operator=(const state &) = delete;
         ~state() { simd_json_close(&parser); }
-        void copy(std::string_view text) {
-            if (capacity < text.size()) {
-                input.reset(new char[text.size()]);
-                capacity = text.size();
+        void reserve(size_t len) {
+            if (capacity < len) {
+                input.reset(new char[len]);
+                capacity = len;
             }
+        }
+        void copy(std::string_view text) {
+            reserve(text.size());
             if (!text.empty())
                 std::memcpy(input.get(), text.data(), text.size());
+        }
+        /* The length of the value that is found, which is at the front of the input then. */
+        std::optional<size_t> find(std::string_view pointer) {
+            for (;;) {
+                simd_json_found found;
+                const int32_t status =
+                    simd_json_parser_find(&parser, pointer.data(), pointer.size(), &found,
+                                          input.get(), capacity);
+                if (status == SIMD_JSON_OK)
+                    return found.len;
+                if (status != SIMD_JSON_TOO_LITTLE_ROOM)
+                    return std::nullopt;
+                reserve(found.len);
+            }
         }
         void forget() {
             static_cast<simd_json_document &>(document) = {};
@@ -390,7 +639,20 @@ private:
         }
     };
 
-    /* Whether a text is a string of the document, which the parse overwrites. */
+    static void check_status(int32_t status, const simd_json_place &place, std::string_view text) {
+        if (status == SIMD_JSON_OUT_OF_MEMORY)
+            throw std::bad_alloc();
+        if (status != SIMD_JSON_OK)
+            throw error(status, place, text);
+    }
+
+    /* A string of the document, which the next call overwrites, becomes a copy. */
+    void own(std::string_view &text, std::string &kept) const {
+        if (is_lent(text))
+            text = kept.assign(text);
+    }
+
+    /* Whether a text is a string of the document. */
     bool is_lent(std::string_view text) const {
         const std::less<const char *> is_before;
         return state_ && state_->document.text && !is_before(text.data(), state_->document.text)

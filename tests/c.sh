@@ -80,6 +80,11 @@ fi
 cc $example $found
 printed=$(LD_LIBRARY_PATH="$room/installed/lib" "$room/example")
 [ "$printed" = 42 ] || { echo "the header's example prints '$printed', not 42"; exit 1; }
+if command -v cmake > /dev/null; then
+    sh tests/cmake.sh "$room/installed" "$room/cmake"
+else
+    left_out="$left_out CMake (not installed);"
+fi
 if command -v c++ > /dev/null; then
     echo '#include <simd_json.h>' | c++ -x c++ -Wall -Wextra -Werror -fsyntax-only -Iinclude -
 fi

@@ -32,5 +32,9 @@ int main() {
     const simd_json::element element(lent_as_const());
 #elif CASE == 8
     const auto element = root[true];
+#elif CASE == 9
+    const auto element = simd_json::parser().find("/0");
+#elif CASE == 10
+    return root == std::vector<int>();
 #endif
 }

@@ -4,6 +4,7 @@
 #include <cmath>
 #include <iostream>
 #include <simd_json.hpp>
+#include <sstream>
 #include <sys/mman.h>
 
 static int failures = 0;
@@ -187,6 +188,107 @@ static void keep_wide_integers() {
         EXPECT(!root[i].as_wide_integer());
 }
 
+static void compare_with_scalars() {
+    simd_json::parser parser;
+    const auto root = parser.parse(
+        R"(["a\u00e9",7,-7,2.50,true,null,18446744073709551615,18446744073709551616,{"a":7}])");
+    EXPECT(root[0] == "aé" && "aé" == root[0] && root[0] == std::string("aé") && root[0] != "a");
+    EXPECT(root[0] == std::string_view("aé") && root[0] != 7 && root[0] != nullptr);
+    EXPECT(root[1] == 7 && 7u == root[1] && root[1] == 7.0 && root[1] != -7 && root[1] != "7");
+    EXPECT(root[1] == uint8_t(7) && root[1] == int64_t(7) && root[1] != true && root[2] != 7u);
+    EXPECT(root[2] == -7 && root[2] == -7.0f && root[2] != UINT64_MAX - 6 && root[3] == 2.5
+           && root[3] != 2);
+    EXPECT(root[4] == true && false != root[4] && root[4] != 1 && root[5] == nullptr
+           && root[5] != 0);
+    EXPECT(root[6] == UINT64_MAX && root[6] != -1 && root[7] == std::ldexp(1.0, 64)
+           && root[7] != UINT64_MAX);
+    EXPECT(root[8] != 7 && root[8] != "a" && root[8].find("a") == 7 && root[8].find("b") != 7);
+    EXPECT(root != false && root != nullptr && simd_json::element() == nullptr);
+}
+
+static void are_printed() {
+    simd_json::parser parser;
+    const char *const text =
+        R"( { "a\u0001\n\"\\/": [ -0, -1, 18446744073709551615, 1.50, -9223372036854775809 ],
+            "b": [ {}, [], [[]], true, false, null ] , "é": { "c": { "d": "" } } } )";
+    std::ostringstream out, member;
+    const auto root = parser.parse(text);
+    out << root;
+    EXPECT(out.str()
+           == R"({"a\u0001\n\"\\/":[0,-1,18446744073709551615,1.50,-9223372036854775809],)"
+              R"("b":[{},[],[[]],true,false,null],"é":{"c":{"d":""}}})");
+    member << root["b"] << root["é"]["c"] << root["b"][0];
+    EXPECT(member.str() == R"([{},[],[[]],true,false,null]{"d":""}{})");
+    // As the library prints them, by itself and of a part.
+    simd_json::parser other;
+    for (const uint32_t layout : {SIMD_JSON_COMPACT, SIMD_JSON_PRETTY}) {
+        EXPECT(to_string(root, layout) == other.print(text, "", layout));
+        EXPECT(to_string(root["b"], layout) == other.print(text, "/b", layout));
+    }
+    EXPECT(other.print("[1]", "", SIMD_JSON_PRETTY) == "[\n  1\n]");
+    EXPECT(throws([&] { other.print("[1,]"); }, SIMD_JSON_INTERNAL_ERROR, 3));
+    EXPECT(throws([&] { other.print("[1]", "/1"); }, SIMD_JSON_NO_VALUE, 0));
+    EXPECT(ends_by<std::logic_error>([&] { other.root(); }));
+    const size_t depth = 300000;
+    simd_json::parser deep(depth);
+    const std::string brackets = std::string(depth, '[') + std::string(depth, ']');
+    EXPECT(to_string(deep.parse(brackets)) == brackets);
+}
+
+static void are_checked() {
+    simd_json::parser parser;
+    const auto root = parser.parse(R"(["[1,\n]"])");
+    try {
+        parser.check(root[0].as_string().value());
+        EXPECT(false);
+    } catch (const simd_json::error &e) {
+        EXPECT(e.line() == 2 && e.column() == 1 && e.reason() == "expected a value, found `]`");
+    }
+    static const char text[] = R"(["\u0041"])"; // which can't be written
+    parser.check({text, sizeof text - 1});
+    EXPECT(throws([&] { simd_json::parser(0).check("[]"); }, SIMD_JSON_DEPTH_LIMIT_EXCEEDED, 0));
+    EXPECT(ends_by<std::logic_error>([&] { parser.root(); }));
+    simd_json_place place;
+    EXPECT(parser.try_check("[01]", place) == SIMD_JSON_INVALID_NUMBER && place.index == 2);
+    simd_json::parser to(std::move(parser));
+    EXPECT(parser.try_check("[]", place) == SIMD_JSON_PARSER_CLOSED);
+    EXPECT(throws([&] { parser.check("[]"); }, SIMD_JSON_PARSER_CLOSED, 0));
+    EXPECT(throws([&] { parser.print("[]"); }, SIMD_JSON_PARSER_CLOSED, 0));
+    EXPECT(throws([&] { parser.index("[]"); }, SIMD_JSON_PARSER_CLOSED, 0) && !parser.find(""));
+}
+
+static void are_found() {
+    simd_json::parser parser;
+    EXPECT(!parser.find(""));
+    std::string text = R"({"a":[{"id":7,"name":"\u00e9"}],"wrong":[1,
+ x],"long":")" + std::string(100000, 'x') + R"(","~/":2)";
+    parser.index(text);
+    text.assign(text.size(), ' '); // it is kept
+    EXPECT(parser.find("/a/0/id") == 7 && parser.find("/a/0/name") == "é");
+    EXPECT(parser.find("/~0~1") == 2 && !parser.find("/a/1") && !parser.find("a")
+           && !parser.find("/\xff"));
+    EXPECT(parser.find("/long")->as_string()->size() == 100000 && parser.root().as_string());
+    EXPECT(parser.find("/a").value()[0]["id"] == 7);
+    try {
+        parser.find("/wrong");
+        EXPECT(false);
+    } catch (const simd_json::error &e) {
+        EXPECT(e.index() == 5 && e.line() == 2 && e.column() == 2);
+        EXPECT(e.reason() == "expected a value, found `x`");
+    }
+    EXPECT(ends_by<std::logic_error>([&] { parser.root(); }));
+    EXPECT(parser.parse("[\"/a/0\"]")[0] == "/a/0");
+    EXPECT(parser.find(parser.root()[0].as_string().value()).value()["id"] == 7);
+    EXPECT(throws([&] { parser.index("[\"\xff\"]"); }, SIMD_JSON_INVALID_UTF8, 0));
+    EXPECT(!parser.find("/a"));
+#ifndef NDEBUG
+    parser.index("[1,2]");
+    const auto one = parser.find("/0");
+    EXPECT(parser.find("/1") == 2);
+    EXPECT(ends_by<std::logic_error>([&] { one->kind(); }));
+#endif
+}
+
 static void are_null_by_default() {
     const simd_json::element none;
     EXPECT(none.is_null() && !none.as_string() && !none.as_double() && none.array().size() == 0
@@ -231,6 +333,10 @@ int main() {
     name_their_place();
     take_each_index();
     keep_wide_integers();
+    compare_with_scalars();
+    are_printed();
+    are_checked();
+    are_found();
     are_null_by_default();
     are_ranges();
     simd_json::parser parser;
