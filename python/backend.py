@@ -25,7 +25,11 @@ Version: {VERSION}
 Summary: JSON by a parser whose results are proved
 License: MIT OR Apache-2.0
 Requires-Python: >=3.10
-"""
+Classifier: Programming Language :: Python :: 3
+Classifier: Operating System :: POSIX :: Linux
+Description-Content-Type: text/markdown
+
+{(HERE / "README.md").read_text()}"""
 WHEEL = f"Wheel-Version: 1.0\nGenerator: simd_json\nRoot-Is-Purelib: false\nTag: {TAG}\n"
 
 

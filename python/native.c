@@ -6,11 +6,12 @@
 #define PY_SSIZE_T_CLEAN
 #include <Python.h>
 #include <simd_json.h>
+#include <stdio.h>
 #include <stdlib.h>
 #include <string.h>
 
-/* Memory that is kept from one input to the next. What a call with user code (`parse_float`) in it uses is its own, since
- * that code may call again. */
+/* Memory that is kept from one input to the next. While code of users runs (`hooks`) it is in use, and a call which that code
+ * makes has memory of its own. */
 typedef struct {
     simd_json_parser parser;
     size_t max_depth;
@@ -22,9 +23,13 @@ typedef struct {
     int in_use;
 } memory;
 
-/* A container, and how many of its members are read. */
+/* A container, and how many of its members are read. Where there are hooks it is made when they are read: `begun` is how many
+ * values were held before it. */
 struct open {
-    PyObject *container;
+    union {
+        PyObject *container;
+        size_t begun;
+    };
     size_t read, len;
     int is_object;
 };
@@ -349,60 +354,15 @@ static int read_short(const char *literal, size_t len, double *number) {
     return 1;
 }
 
-/* What `parse_float` has made of the literals of a document, in their order.
- *
- * That is code of users, which by the gc module sees every container, in each thread. So all of it
- * is called before the first container is made, and what it has returned is held until the last is
- * whole: then no object of theirs dies in between either. */
-typedef struct {
-    PyObject **made;
-    size_t len, taken;
-} literals;
-
-static size_t count_literals(const memory *m) {
-    size_t count = 0;
-    for (size_t i = 0; i < m->document.nodes_len; i++)
-        count += m->document.nodes[i].kind == SIMD_JSON_DECIMAL;
-    return count;
-}
-
-static int call_for_each(const memory *m, PyObject *parse_float, literals *of) {
-    size_t count = count_literals(m), cap = 0;
-    if (!grow(&of->made, &cap, count, sizeof *of->made))
-        return 0;
-    for (const simd_json_node *node = m->document.nodes; of->len < count; node++) {
-        if (node->kind != SIMD_JSON_DECIMAL)
-            continue;
-        const char *literal = m->document.text + node->value;
-        PyObject *made = PyObject_CallFunction(parse_float, "s#", literal, (Py_ssize_t)node->len);
-        if (!made)
-            return 0;
-        of->made[of->len++] = made;
-    }
-    return 1;
-}
-
-static void drop(literals *of) {
-    for (size_t i = 0; i < of->len; i++)
-        Py_DECREF(of->made[i]);
-    free(of->made);
-}
-
-/* A number with a fraction or an exponent: the nearest float, or the next that `parse_float` has
- * made. */
-static PyObject *to_float(const memory *m, const simd_json_node *node, literals *made) {
-    if (made) {
-        PyObject *next = made->made[made->taken++];
-        Py_INCREF(next);
-        return next;
-    }
+/* A number with a fraction or an exponent: the nearest float. */
+static PyObject *to_float(const memory *m, const simd_json_node *node) {
     double number = 0;
     if (!read_short(m->document.text + node->value, node->len, &number))
         simd_json_double(m->document.text + node->value, node->len, &number);
     return PyFloat_FromDouble(number);
 }
 
-static PyObject *to_value(const memory *m, const simd_json_node *node, literals *made) {
+static PyObject *to_value(const memory *m, const simd_json_node *node) {
     if (node->kind == SIMD_JSON_STRING) /* most are, and so it is guessed better than a jump of the switch */
         return to_string(m, node);
     switch (node->kind) {
@@ -419,7 +379,7 @@ static PyObject *to_value(const memory *m, const simd_json_node *node, literals 
     case SIMD_JSON_U128:
         return to_wide(m, node);
     case SIMD_JSON_DECIMAL:
-        return to_float(m, node, made);
+        return to_float(m, node);
     case SIMD_JSON_ARRAY:
         return PyList_New((Py_ssize_t)node->len);
     default:
@@ -441,16 +401,16 @@ static int grow_open(memory *m) {
 
 /* The value of all nodes. A container is put into the one around it as soon as it is made, so an
  * error frees the root alone. No code of users runs before it returns. */
-static PyObject *build(memory *m, literals *made) {
+static PyObject *build(memory *m) {
     const simd_json_node *node = m->document.nodes, *end = node + m->document.nodes_len;
     PyObject *root = NULL;
-    struct open in = {NULL, 0, 1, 0}; /* around the root */
+    struct open in = {.read = 0, .len = 1}; /* around the root */
     size_t depth = 0;
     for (; node < end; node++) {
         PyObject *key = NULL;
         if (in.is_object && !(key = to_key(m, node++)))
             goto failed;
-        PyObject *value = to_value(m, node, made);
+        PyObject *value = to_value(m, node);
         int failed = !value;
         if (key) {
             failed = failed || PyDict_SetItem(in.container, key, value) < 0;
@@ -468,7 +428,7 @@ static PyObject *build(memory *m, literals *made) {
             if (depth == m->open_cap && !grow_open(m))
                 goto failed;
             m->open[depth++] = in;
-            in = (struct open){value, 0, node->len, node->kind == SIMD_JSON_OBJECT};
+            in = (struct open){{value}, 0, node->len, node->kind == SIMD_JSON_OBJECT};
         }
         while (in.read == in.len && depth)
             in = m->open[--depth];
@@ -479,27 +439,172 @@ failed:
     return NULL;
 }
 
-/* The arguments: the input, and by name parse_float (NULL where it is float or None) and max_depth.
- */
+/* Functions of users, each NULL where there is none, and where it is what is made without it. */
+enum { PARSE_FLOAT, PARSE_INT, OBJECT_HOOK, OBJECT_PAIRS_HOOK, HOOKS };
+
+/* The values that are whole, of containers that are not.
+ *
+ * Code of users sees every container by the gc module, in each thread. So a container is made only when all that is in it is
+ * whole, and what is in it is held until the container is whole too: no object of theirs dies before. */
 typedef struct {
-    PyObject *data, *parse_float;
+    PyObject **values;
+    size_t len, cap;
+} held;
+
+static int hold(held *of, PyObject *value) {
+    if (!value)
+        return 0;
+    if (of->len == of->cap) {
+        size_t cap = 2 * of->cap + 64;
+        PyObject **more = realloc(of->values, cap * sizeof *more);
+        if (!more) {
+            Py_DECREF(value);
+            PyErr_NoMemory();
+            return 0;
+        }
+        of->values = more;
+        of->cap = cap;
+    }
+    of->values[of->len++] = value;
+    return 1;
+}
+
+/* Lets go of all that was held after so many. */
+static void drop(held *of, size_t begun) {
+    while (of->len > begun)
+        Py_DECREF(of->values[--of->len]);
+}
+
+/* What `hook` makes of a number, whose literal it is called with, as `json` does. */
+static PyObject *call_with_literal(const memory *m, const simd_json_node *node, PyObject *hook) {
+    char digits[24];
+    int len;
+    switch (node->kind) {
+    case SIMD_JSON_I64: /* with a `-`, so 0 is `-0` */
+        len = snprintf(digits, sizeof digits, "-%llu", 0 - (unsigned long long)node->value);
+        return PyObject_CallFunction(hook, "s#", digits, (Py_ssize_t)len);
+    case SIMD_JSON_U64:
+        len = snprintf(digits, sizeof digits, "%llu", (unsigned long long)node->value);
+        return PyObject_CallFunction(hook, "s#", digits, (Py_ssize_t)len);
+    default:
+        return PyObject_CallFunction(hook, "s#", m->document.text + node->value, (Py_ssize_t)node->len);
+    }
+}
+
+static PyObject *to_hooked_scalar(const memory *m, const simd_json_node *node, PyObject **hooks) {
+    int is_integer = node->kind >= SIMD_JSON_I64 && node->kind <= SIMD_JSON_U128;
+    PyObject *hook = is_integer ? hooks[PARSE_INT] : node->kind == SIMD_JSON_DECIMAL ? hooks[PARSE_FLOAT] : NULL;
+    return hook ? call_with_literal(m, node, hook) : to_value(m, node);
+}
+
+static PyObject *list_of(PyObject **values, size_t count, size_t stride) {
+    PyObject *list = PyList_New((Py_ssize_t)count);
+    for (size_t i = 0; list && i < count; i++) {
+        Py_INCREF(values[i * stride]);
+        PyList_SetItem(list, (Py_ssize_t)i, values[i * stride]);
+    }
+    return list;
+}
+
+static PyObject *dict_of(PyObject **values, size_t count) {
+    PyObject *dict = PyDict_New();
+    for (size_t i = 0; dict && i < count; i++)
+        if (PyDict_SetItem(dict, values[2 * i], values[2 * i + 1]) < 0)
+            Py_CLEAR(dict);
+    return dict;
+}
+
+/* Each key becomes a pair of it and its value. */
+static PyObject *pairs_of(PyObject **values, size_t count) {
+    for (size_t i = 0; i < count; i++) {
+        PyObject *pair = PyTuple_Pack(2, values[2 * i], values[2 * i + 1]);
+        if (!pair)
+            return NULL;
+        Py_DECREF(values[2 * i]);
+        values[2 * i] = pair;
+    }
+    return list_of(values, count, 2);
+}
+
+static PyObject *object_of(PyObject **values, size_t count, PyObject **hooks) {
+    PyObject *pairs = hooks[OBJECT_PAIRS_HOOK], *hook = pairs ? pairs : hooks[OBJECT_HOOK];
+    PyObject *whole = pairs ? pairs_of(values, count) : dict_of(values, count);
+    if (!whole || !hook)
+        return whole;
+    PyObject *made = PyObject_CallFunctionObjArgs(hook, whole, NULL);
+    Py_DECREF(whole);
+    return made;
+}
+
+/* A container of which all is held, or what a hook makes of it. */
+static PyObject *close_hooked(held *of, const struct open *in, PyObject **hooks) {
+    PyObject **values = of->values + in->begun;
+    PyObject *made = in->is_object ? object_of(values, in->len, hooks) : list_of(values, in->len, 1);
+    drop(of, in->begun);
+    return made;
+}
+
+/* The value of all nodes where there are hooks, which are called in the order of the document. */
+static PyObject *build_hooked(memory *m, PyObject **hooks, held *of) {
+    struct open in = {.read = 0, .len = 1}; /* around the root */
+    size_t depth = 0;
+    for (const simd_json_node *node = m->document.nodes, *end = node + m->document.nodes_len; node < end; node++) {
+        if (in.is_object && !hold(of, to_key(m, node++)))
+            return NULL;
+        if (node->kind >= SIMD_JSON_ARRAY) {
+            if (depth == m->open_cap && !grow_open(m))
+                return NULL;
+            m->open[depth++] = in;
+            in = (struct open){{.begun = of->len}, 0, node->len, node->kind == SIMD_JSON_OBJECT};
+        } else {
+            if (!hold(of, to_hooked_scalar(m, node, hooks)))
+                return NULL;
+            in.read++;
+        }
+        while (in.read == in.len && depth) {
+            if (!hold(of, close_hooked(of, &in, hooks)))
+                return NULL;
+            in = m->open[--depth];
+            in.read++;
+        }
+    }
+    return of->values[--of->len];
+}
+
+/* The arguments: the input, and by name the hooks and max_depth. */
+typedef struct {
+    PyObject *data, *hooks[HOOKS];
     Py_ssize_t max_depth;
 } arguments;
 
-static int are_right(arguments *given) {
-    if (given->parse_float == Py_None || given->parse_float == (PyObject *)&PyFloat_Type)
-        given->parse_float = NULL;
+static int are_right(arguments *given, PyObject *parse_constant) {
+    static PyTypeObject *const made[HOOKS] = {&PyFloat_Type, &PyLong_Type, NULL, NULL};
+    for (int i = 0; i < HOOKS; i++)
+        if (given->hooks[i] == Py_None || given->hooks[i] == (PyObject *)made[i])
+            given->hooks[i] = NULL;
+    if (parse_constant && parse_constant != Py_None) {
+        PyErr_SetString(PyExc_TypeError, "parse_constant is not called: NaN, Infinity and -Infinity are rejected (RFC 8259, section 6)");
+        return 0;
+    }
     if (given->max_depth < 0)
         PyErr_SetString(PyExc_ValueError, "max_depth is negative");
     return given->max_depth >= 0;
 }
 
-/* Nothing that is being made is garbage, so collections would look through it in vain. In build no
- * code of users runs, and no other thread, since the interpreter's lock is held: nobody sees that
- * the collector is off. */
-static PyObject *build_uncollected(memory *m, literals *made) {
+/* Without hooks nothing that is being made is garbage, so collections would look through it in vain. No code of users runs, and
+ * no other thread, since the interpreter's lock is held: nobody sees that the collector is off. */
+static PyObject *build_any(memory *m, PyObject **hooks) {
+    for (int i = 0; i < HOOKS; i++) {
+        if (hooks[i]) {
+            held of = {NULL, 0, 0};
+            PyObject *value = build_hooked(m, hooks, &of);
+            drop(&of, 0);
+            free(of.values);
+            return value;
+        }
+    }
     int collects = PyGC_Disable();
-    PyObject *value = build(m, made);
+    PyObject *value = build(m);
     if (collects)
         PyGC_Enable();
     return value;
@@ -509,15 +614,7 @@ static PyObject *loads_in(memory *kept, arguments *given) {
     memory own = {0};
     memory *m = kept->in_use ? &own : kept;
     m->in_use = 1;
-    PyObject *value = NULL;
-    if (parse(m, given->data, (size_t)given->max_depth)) {
-        literals made = {NULL, 0, 0};
-        if (!given->parse_float)
-            value = build_uncollected(m, NULL);
-        else if (call_for_each(m, given->parse_float, &made))
-            value = build_uncollected(m, &made);
-        drop(&made);
-    }
+    PyObject *value = parse(m, given->data, (size_t)given->max_depth) ? build_any(m, given->hooks) : NULL;
     m->in_use = 0;
     if (m == &own)
         release(m);
@@ -559,6 +656,82 @@ static PyObject *check_in(memory *kept, arguments *given) {
     return Py_None;
 }
 
+/* Keeps a copy of the input with its structural indexes. A bytearray could change while other threads run. */
+static int index_in(memory *m, PyObject *data, size_t max_depth) {
+    simd_json_place place;
+    text of;
+    int is_right = text_of(data, &of) && is_taken(data, &of) && prepare(m, max_depth, of.len);
+    if (is_right) {
+        PyThreadState *others = of.len > LONG && !PyByteArray_Check(data) ? PyEval_SaveThread() : NULL;
+        int32_t status = simd_json_parser_index(&m->parser, of.bytes, (size_t)of.len, &place);
+        if (others)
+            PyEval_RestoreThread(others);
+        is_right = status == SIMD_JSON_OK;
+        if (!is_right)
+            reject(status, &place, data);
+    }
+    Py_XDECREF(of.owned);
+    return is_right;
+}
+
+/* Copies the value that a pointer names, as it is written, to the input of `to`: 1, or 0 where there is none, or -1 and an error.
+ * Of half of a surrogate pair there is no key. */
+static int find(memory *in, PyObject *pointer, memory *to, size_t *len) {
+    simd_json_found found = {0, 0};
+    text of = {NULL, 0, NULL};
+    if (!PyUnicode_Check(pointer)) {
+        PyErr_Format(PyExc_TypeError, "the JSON Pointer must be str, not %R", Py_TYPE(pointer));
+        return -1;
+    }
+    int is_utf8 = utf8_of(pointer, &of);
+    int32_t status = SIMD_JSON_TOO_LITTLE_ROOM;
+    while (is_utf8 && status == SIMD_JSON_TOO_LITTLE_ROOM) {
+        status = simd_json_parser_find(&in->parser, of.bytes, (size_t)of.len, &found, to->input, to->input_cap);
+        if (status == SIMD_JSON_TOO_LITTLE_ROOM && !grow(&to->input, &to->input_cap, found.len + 1, 1))
+            break;
+    }
+    Py_XDECREF(of.owned);
+    *len = found.len;
+    return !is_utf8 || status == SIMD_JSON_TOO_LITTLE_ROOM ? -1 : status == SIMD_JSON_OK;
+}
+
+/* Raises the error of the value that a pointer names, of which the text is the input. */
+static void *reject_found(memory *in, PyObject *pointer, memory *m, int32_t status, const simd_json_place *place) {
+    size_t len;
+    if (find(in, pointer, m, &len) != 1) /* it was found before */
+        return PyErr_NoMemory();
+    PyObject *data = PyUnicode_DecodeUTF8(m->input, (Py_ssize_t)len, NULL);
+    if (data)
+        reject(status, place, data);
+    Py_XDECREF(data);
+    return NULL;
+}
+
+/* The value that a pointer names in the input that `in` keeps, or `none`. No code of users runs before the value is copied. */
+static PyObject *get_in(memory *in, memory *kept, PyObject *pointer, PyObject *none, arguments *given) {
+    memory own = {0};
+    memory *m = kept->in_use ? &own : kept;
+    PyObject *value = NULL;
+    size_t len;
+    m->in_use = 1;
+    int is_found = find(in, pointer, m, &len);
+    if (is_found == 0) {
+        Py_INCREF(none);
+        value = none;
+    } else if (is_found == 1 && prepare(m, (size_t)given->max_depth, (Py_ssize_t)len)) {
+        simd_json_place place;
+        int32_t status = simd_json_parser_parse(&m->parser, m->input, len, &m->document, &place);
+        if (status == SIMD_JSON_OK)
+            value = build_any(m, given->hooks);
+        else
+            reject_found(in, pointer, m, status, &place);
+    }
+    m->in_use = 0;
+    if (m == &own)
+        release(m);
+    return value;
+}
+
 /* The functions of the module keep memory for inputs of at most so many bytes. */
 enum { KEPT = 1 << 20 };
 
@@ -569,10 +742,12 @@ static void keep_little(void) {
 
 static PyObject *loads(PyObject *module, PyObject *args, PyObject *named) {
     (void)module;
-    static char *names[] = {"", "parse_float", "max_depth", NULL};
-    arguments given = {NULL, NULL, 1024};
-    if (!PyArg_ParseTupleAndKeywords(args, named, "O|$On:loads", names, &given.data, &given.parse_float, &given.max_depth) ||
-        !are_right(&given))
+    static char *names[] = {"", "object_hook", "parse_float", "parse_int", "parse_constant", "object_pairs_hook", "max_depth", NULL};
+    arguments given = {NULL, {NULL}, 1024};
+    PyObject **hooks = given.hooks, *parse_constant = NULL;
+    if (!PyArg_ParseTupleAndKeywords(args, named, "O|$OOOOOn:loads", names, &given.data, &hooks[OBJECT_HOOK], &hooks[PARSE_FLOAT],
+                                     &hooks[PARSE_INT], &parse_constant, &hooks[OBJECT_PAIRS_HOOK], &given.max_depth) ||
+        !are_right(&given, parse_constant))
         return NULL;
     PyObject *value = loads_in(&shared, &given);
     keep_little();
@@ -582,44 +757,70 @@ static PyObject *loads(PyObject *module, PyObject *args, PyObject *named) {
 static PyObject *check(PyObject *module, PyObject *args, PyObject *named) {
     (void)module;
     static char *names[] = {"", "max_depth", NULL};
-    arguments given = {NULL, NULL, 1024};
-    if (!PyArg_ParseTupleAndKeywords(args, named, "O|$n:check", names, &given.data, &given.max_depth) || !are_right(&given))
+    arguments given = {NULL, {NULL}, 1024};
+    if (!PyArg_ParseTupleAndKeywords(args, named, "O|$n:check", names, &given.data, &given.max_depth) || !are_right(&given, NULL))
         return NULL;
     PyObject *none = check_in(&shared, &given);
     keep_little();
     return none;
 }
 
+static PyObject *get(PyObject *module, PyObject *args, PyObject *named) {
+    (void)module;
+    static char *names[] = {"", "", "default", "max_depth", NULL};
+    arguments given = {NULL, {NULL}, 1024};
+    PyObject *pointer, *none = Py_None;
+    if (!PyArg_ParseTupleAndKeywords(args, named, "OO|O$n:get", names, &given.data, &pointer, &none, &given.max_depth) ||
+        !are_right(&given, NULL))
+        return NULL;
+    memory own = {0};
+    memory *m = shared.in_use ? &own : &shared;
+    m->in_use = 1; /* while it is indexed other threads may run */
+    int is_indexed = index_in(m, given.data, (size_t)given.max_depth);
+    m->in_use = 0;
+    PyObject *value = is_indexed ? get_in(m, m, pointer, none, &given) : NULL;
+    if (m == &own)
+        release(m);
+    keep_little();
+    return value;
+}
+
 typedef struct {
-    PyObject_HEAD memory kept;
+    PyObject_HEAD memory kept, indexed;
     Py_ssize_t max_depth;
-    PyObject *parse_float;
+    PyObject *hooks[HOOKS];
 } parser;
 
 static int parser_init(PyObject *self, PyObject *args, PyObject *named) {
-    static char *names[] = {"max_depth", "parse_float", NULL};
+    static char *names[] = {"max_depth", "object_hook", "parse_float", "parse_int", "parse_constant", "object_pairs_hook", NULL};
     parser *p = (parser *)self;
-    arguments given = {NULL, NULL, 1024};
-    if (!PyArg_ParseTupleAndKeywords(args, named, "|$nO:Parser", names, &given.max_depth, &given.parse_float) ||
-        !are_right(&given))
+    arguments given = {NULL, {NULL}, 1024};
+    PyObject **hooks = given.hooks, *parse_constant = NULL, *old[HOOKS];
+    if (!PyArg_ParseTupleAndKeywords(args, named, "|$nOOOOO:Parser", names, &given.max_depth, &hooks[OBJECT_HOOK],
+                                     &hooks[PARSE_FLOAT], &hooks[PARSE_INT], &parse_constant, &hooks[OBJECT_PAIRS_HOOK]) ||
+        !are_right(&given, parse_constant))
         return -1;
-    PyObject *old = p->parse_float;
-    Py_XINCREF(given.parse_float);
-    p->parse_float = given.parse_float;
+    memcpy(old, p->hooks, sizeof old);
+    for (int i = 0; i < HOOKS; i++)
+        Py_XINCREF(hooks[i]);
+    memcpy(p->hooks, hooks, sizeof old);
     p->max_depth = given.max_depth;
-    Py_XDECREF(old);
+    for (int i = 0; i < HOOKS; i++)
+        Py_XDECREF(old[i]);
     return 0;
 }
 
-/* A parser may be in a cycle, by a parse_float that is a method of its own. */
+/* A parser may be in a cycle, by a hook that is a method of its own. */
 static int parser_traverse(PyObject *self, visitproc visit, void *arg) {
-    Py_VISIT(((parser *)self)->parse_float);
+    for (int i = 0; i < HOOKS; i++)
+        Py_VISIT(((parser *)self)->hooks[i]);
     Py_VISIT(Py_TYPE(self));
     return 0;
 }
 
 static int parser_clear(PyObject *self) {
-    Py_CLEAR(((parser *)self)->parse_float);
+    for (int i = 0; i < HOOKS; i++)
+        Py_CLEAR(((parser *)self)->hooks[i]);
     return 0;
 }
 
@@ -628,27 +829,72 @@ static void parser_free(PyObject *self) {
     PyTypeObject *type = Py_TYPE(self);
     PyObject_GC_UnTrack(self);
     release(&p->kept);
-    Py_XDECREF(p->parse_float);
+    release(&p->indexed);
+    parser_clear(self);
     freefunc release_self = (freefunc)PyType_GetSlot(type, Py_tp_free);
     release_self(self);
     Py_DECREF(type);
 }
 
-static PyObject *parser_loads(PyObject *self, PyObject *data) {
+/* The parser and its hooks, which are called although these may call __init__ with others. */
+static arguments begin_call(PyObject *self, PyObject *data) {
     parser *p = (parser *)self;
-    arguments given = {data, p->parse_float, p->max_depth};
+    arguments given = {data, {NULL}, p->max_depth};
     Py_INCREF(self);
-    Py_XINCREF(given.parse_float); /* which may call __init__ with another */
-    PyObject *value = loads_in(&p->kept, &given);
-    Py_XDECREF(given.parse_float);
+    memcpy(given.hooks, p->hooks, sizeof given.hooks);
+    for (int i = 0; i < HOOKS; i++)
+        Py_XINCREF(given.hooks[i]);
+    return given;
+}
+
+static PyObject *end_call(PyObject *self, arguments *given, PyObject *value) {
+    for (int i = 0; i < HOOKS; i++)
+        Py_XDECREF(given->hooks[i]);
     Py_DECREF(self);
     return value;
 }
 
+static PyObject *parser_loads(PyObject *self, PyObject *data) {
+    arguments given = begin_call(self, data);
+    return end_call(self, &given, loads_in(&((parser *)self)->kept, &given));
+}
+
 static PyObject *parser_check(PyObject *self, PyObject *data) {
     parser *p = (parser *)self;
-    arguments given = {data, NULL, p->max_depth};
+    arguments given = {data, {NULL}, p->max_depth};
     return check_in(&p->kept, &given);
+}
+
+/* Whether no other thread indexes an input with the parser; else an error is raised. */
+static int is_free(const memory *m) {
+    if (m->in_use)
+        PyErr_SetString(PyExc_RuntimeError, "another thread indexes an input with this parser");
+    return !m->in_use;
+}
+
+static PyObject *parser_index(PyObject *self, PyObject *data) {
+    parser *p = (parser *)self;
+    if (!is_free(&p->indexed))
+        return NULL;
+    Py_INCREF(self);
+    p->indexed.in_use = 1;
+    int is_indexed = index_in(&p->indexed, data, (size_t)p->max_depth);
+    p->indexed.in_use = 0;
+    Py_DECREF(self);
+    if (!is_indexed)
+        return NULL;
+    Py_INCREF(Py_None);
+    return Py_None;
+}
+
+static PyObject *parser_get(PyObject *self, PyObject *args, PyObject *named) {
+    static char *names[] = {"", "default", NULL};
+    parser *p = (parser *)self;
+    PyObject *pointer, *none = Py_None;
+    if (!PyArg_ParseTupleAndKeywords(args, named, "O|O:get", names, &pointer, &none) || !is_free(&p->indexed))
+        return NULL;
+    arguments given = begin_call(self, NULL);
+    return end_call(self, &given, get_in(&p->indexed, &p->kept, pointer, none, &given));
 }
 
 static PyMethodDef parser_methods[] = {
@@ -656,11 +902,22 @@ static PyMethodDef parser_methods[] = {
      "loads($self, data, /)\n--\n\nThe value of a document, as the module's loads returns it."},
     {"check", parser_check, METH_O,
      "check($self, data, /)\n--\n\nRaises SimdJsonError unless the bytes are a document."},
+    {"index", parser_index, METH_O,
+     "index($self, data, /)\n--\n\n"
+     "Keeps a copy of a document for get, in place of the one before.\n\n"
+     "Its size and encoding are checked, and that strings end and hold no byte below 0x20; else it raises SimdJsonError.\n"
+     "That it is a document is not checked."},
+    {"get", (PyCFunction)(void (*)(void))parser_get, METH_VARARGS | METH_KEYWORDS,
+     "get($self, pointer, /, default=None)\n--\n\n"
+     "The value that a JSON Pointer (RFC 6901) names in what index has kept, or default.\n\n"
+     "Only the value, and what lies on the way to it, is checked: where the rest is no document, a value may be found all the\n"
+     "same. SimdJsonError is raised of the value alone, whose text is doc."},
     {NULL, NULL, 0, NULL},
 };
 
 static PyType_Slot parser_slots[] = {
-    {Py_tp_doc, "Parser(*, max_depth=1024, parse_float=None)\n--\n\n"
+    {Py_tp_doc, "Parser(*, max_depth=1024, object_hook=None, parse_float=None, parse_int=None, parse_constant=None,"
+                " object_pairs_hook=None)\n--\n\n"
                 "Reads one document after another with memory that is kept between them."},
     {Py_tp_init, parser_init},
     {Py_tp_traverse, parser_traverse},
@@ -685,14 +942,20 @@ static PyObject *set_error(PyObject *module, PyObject *function) {
 
 static PyMethodDef functions[] = {
     {"loads", (PyCFunction)(void (*)(void))loads, METH_VARARGS | METH_KEYWORDS,
-     "loads(data, /, *, parse_float=None, max_depth=1024)\n--\n\n"
+     "loads(data, /, *, object_hook=None, parse_float=None, parse_int=None, parse_constant=None, object_pairs_hook=None,"
+     " max_depth=1024)\n--\n\n"
      "The value of a JSON document (RFC 8259) in str, bytes, bytearray or memoryview.\n\n"
-     "parse_float is called with the literal of each number that has a fraction or an exponent, "
-     "in\n"
-     "their order, before a container is made; without it they are floats.\n\n"
+     "parse_float and parse_int are called with the literal of a number, object_hook with a dict, and object_pairs_hook,\n"
+     "which goes before it, with a list of pairs; what they return is the value. They see no container that is half made.\n"
+     "parse_constant raises TypeError: NaN and Infinity are rejected.\n\n"
      "Raises SimdJsonError, with the first error and its place."},
     {"check", (PyCFunction)(void (*)(void))check, METH_VARARGS | METH_KEYWORDS,
      "check(data, /, *, max_depth=1024)\n--\n\nRaises SimdJsonError unless the bytes are a JSON document (RFC 8259)."},
+    {"get", (PyCFunction)(void (*)(void))get, METH_VARARGS | METH_KEYWORDS,
+     "get(data, pointer, /, default=None, *, max_depth=1024)\n--\n\n"
+     "The value that a JSON Pointer (RFC 6901) names in a document, or default.\n\n"
+     "Only the value, and what lies on the way to it, is checked: where the rest is no document, a value may be found all the\n"
+     "same. For several values of one document Parser.index and Parser.get are faster."},
     {"_set_error", set_error, METH_O, NULL},
     {NULL, NULL, 0, NULL},
 };

@@ -12,9 +12,9 @@ One interpreter of a process can import it, the first that does; others get Impo
 from json import JSONDecodeError
 
 from . import _native
-from ._native import __version__, check, loads
+from ._native import __version__, check, get, loads
 
-__all__ = ["Parser", "SimdJsonError", "check", "loads"]
+__all__ = ["Parser", "SimdJsonError", "check", "get", "load", "loads"]
 
 
 class SimdJsonError(JSONDecodeError):
@@ -66,10 +66,16 @@ def _error(msg, doc, pos, reason, lineno, colno):
 _native._set_error(_error)
 
 
+def load(file, /, **named):
+    """The value of the document that a file has, as loads returns it."""
+    return loads(file.read(), **named)
+
+
 class Parser(_native.Parser):
     """Reads one document after another with memory that is kept between them.
 
-    Parser(*, max_depth=1024, parse_float=None): as loads has them. One thread may use it at a time.
+    Parser(*, max_depth=1024, object_hook=None, parse_float=None, ..): as loads has them. One thread
+    may use it at a time.
     """
 
     __slots__ = ()

@@ -1,6 +1,6 @@
 from collections.abc import Callable, Iterable, Iterator
 from json import JSONDecodeError
-from typing import Any
+from typing import Any, Protocol
 
 Text = str | bytes | bytearray | memoryview
 __version__: str
@@ -16,17 +16,51 @@ class SimdJsonError(JSONDecodeError):
         self, msg: str, doc: Text, pos: int, reason: str, lineno: int, colno: int
     ) -> None: ...
 
+class _File(Protocol):
+    def read(self) -> Text: ...
+
 def loads(
-    data: Text, /, *, parse_float: Callable[[str], Any] | None = None, max_depth: int = 1024
+    data: Text,
+    /,
+    *,
+    object_hook: Callable[[dict[str, Any]], Any] | None = None,
+    parse_float: Callable[[str], Any] | None = None,
+    parse_int: Callable[[str], Any] | None = None,
+    parse_constant: None = None,
+    object_pairs_hook: Callable[[list[tuple[str, Any]]], Any] | None = None,
+    max_depth: int = 1024,
+) -> Any: ...
+def load(
+    file: _File,
+    /,
+    *,
+    object_hook: Callable[[dict[str, Any]], Any] | None = None,
+    parse_float: Callable[[str], Any] | None = None,
+    parse_int: Callable[[str], Any] | None = None,
+    parse_constant: None = None,
+    object_pairs_hook: Callable[[list[tuple[str, Any]]], Any] | None = None,
+    max_depth: int = 1024,
+) -> Any: ...
+def get(
+    data: Text, pointer: str, /, default: Any = None, *, max_depth: int = 1024
 ) -> Any: ...
 def check(data: Text, /, *, max_depth: int = 1024) -> None: ...
 
 class Parser:
     def __init__(
-        self, *, max_depth: int = 1024, parse_float: Callable[[str], Any] | None = None
+        self,
+        *,
+        max_depth: int = 1024,
+        object_hook: Callable[[dict[str, Any]], Any] | None = None,
+        parse_float: Callable[[str], Any] | None = None,
+        parse_int: Callable[[str], Any] | None = None,
+        parse_constant: None = None,
+        object_pairs_hook: Callable[[list[tuple[str, Any]]], Any] | None = None,
     ) -> None: ...
     def loads(self, data: Text, /) -> Any: ...
     def check(self, data: Text, /) -> None: ...
+    def index(self, data: Text, /) -> None: ...
+    def get(self, pointer: str, /, default: Any = None) -> Any: ...
     def lines(
         self, file: Iterable[Text], *, on_error: Callable[[SimdJsonError], object] | None = None
     ) -> Iterator[Any]: ...

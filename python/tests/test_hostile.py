@@ -41,8 +41,12 @@ class Reader(simd_json.Parser):
     """In a cycle with its parse_float."""
 
     def __init__(self, of):
-        super().__init__(parse_float=self.read)
+        super().__init__(parse_float=self.read, object_hook=self.hook)
         self.of = of
+
+    def hook(self, found):
+        self.of.act()
+        return found
 
     def read(self, literal):
         return self.of.read(literal)
@@ -105,8 +109,16 @@ class Hostile:
             self.input.clear()
         elif act == 5 and isinstance(self.input, memoryview):
             self.input.release()
-        elif act < 9 and self.deep < 2:
+        elif act < 11 and self.deep < 2:
             self.nested(act)
+
+    def on_demand(self, text):
+        """All threads index with one parser, which lets one in at a time."""
+        try:
+            SHARED.index(text)
+            SHARED.get("/2")
+        except RuntimeError as error:
+            assert "another thread" in str(error)
 
     def nested(self, act):
         self.deep += 1
@@ -115,9 +127,15 @@ class Hostile:
             if act == 6 and self.parser is not None:
                 self.parser.loads(text)
             elif act == 7:
-                simd_json.loads(text, parse_float=self.read)
+                simd_json.loads(text, parse_float=self.read, object_pairs_hook=dict)
             elif act == 8:
                 SHARED.check(text)
+            elif act == 9 and self.parser is not None:
+                self.parser.index(text)
+                self.parser.get("/1")
+            elif act == 10:
+                simd_json.get(text, "/0")
+                self.on_demand(text)
         finally:
             self.deep -= 1
 
@@ -132,7 +150,7 @@ class Hostile:
     def call(self, text):
         kind = self.rng.choice([str, bytes, bytearray, memoryview])
         data = self.input = text if kind is str else kind(text.encode())
-        way = self.rng.randrange(5)
+        way = self.rng.randrange(6)
         if way == 0:
             return simd_json.loads(data, parse_float=self.read)
         if way == 1:
@@ -140,6 +158,9 @@ class Hostile:
         self.parser = Reader(self)
         if way == 2:
             return next(self.parser.lines([data]))
+        if way == 5:
+            self.parser.index(data)
+            return self.parser.get("")
         return self.parser.loads(data)
 
     def round(self):

@@ -28,6 +28,16 @@ def calls():
     yield lambda: simd_json.check(TEXT)
     yield lambda: simd_json.Parser().loads(TEXT)
     yield lambda: simd_json.Parser().check(TEXT)
+    yield lambda: simd_json.loads(TEXT, object_hook=id, parse_int=str)
+    yield lambda: simd_json.loads(TEXT, object_pairs_hook=tuple, parse_float=str)
+    yield lambda: simd_json.get(TEXT, "/a/3")
+    yield found
+
+
+def found():
+    parser = simd_json.Parser(object_hook=id)
+    parser.index(TEXT)
+    return parser.get("/long"), parser.get("")
 
 
 def nested():
@@ -106,10 +116,12 @@ class Memory(unittest.TestCase):
         """The same calls again and again hold nothing more."""
         def once():
             for text in (TEXT, b"[1,]", b'{"a":1.5', "\x00", b"\xff"):
-                try:
-                    simd_json.loads(text)
-                except simd_json.SimdJsonError:
-                    pass
+                for call in (simd_json.loads, lambda text: simd_json.loads(text, object_pairs_hook=dict, parse_int=str),
+                             lambda text: simd_json.get(text, "/a"), lambda text: simd_json.get(text, "/b", [])):
+                    try:
+                        call(text)
+                    except simd_json.SimdJsonError:
+                        pass
         once()
         gc.collect()
         before = sys.getrefcount(None), len(gc.get_objects())

@@ -11,7 +11,9 @@ import os
 import pathlib
 import pickle
 import random
+import subprocess
 import sys
+import tempfile
 import unittest
 import weakref
 
@@ -24,6 +26,9 @@ sys.path.append(str(ROOT / "examples" / "python"))
 import mutants  # noqa: E402
 
 MUTANTS = int(os.environ.get("MUTANTS", "100000"))
+
+
+absent = object()
 
 
 def by(call, *arguments, **named):
@@ -171,6 +176,136 @@ class Values(unittest.TestCase):
             with self.assertRaises(ZeroDivisionError):
                 simd_json.loads("[1.5]", parse_float=lambda _: 1 // 0)
             self.assertEqual(gc.isenabled(), change is gc.enable)
+
+    def test_hooks(self):
+        """As json calls them, in the same order, with the same arguments."""
+        texts = ('{"a":[1,-2.5,{"b":-0,"a":{}}],"a":{"c":18446744073709551616},"":[]}', "[]", "{}", "7", "-1e5",
+                 '[[{"k":1,"k":2}],[[[]]],null,"x",-9223372036854775808]', str(2**128 - 1), '"text"')
+        names = ("object_hook", "object_pairs_hook", "parse_float", "parse_int")
+
+        def hooks(chosen, calls):
+            def hook(name):
+                def call(given):
+                    calls.append((name, copy.deepcopy(given)))
+                    return (name, given)
+                return call
+            return {name: hook(name) for name in chosen}
+
+        for text in texts:
+            for chosen in range(1 << len(names)):
+                chosen = [name for at, name in enumerate(names) if chosen >> at & 1]
+                found, wanted = [], []
+                self.assertEqual(simd_json.loads(text, **hooks(chosen, found)), json.loads(text, **hooks(chosen, wanted)))
+                self.assertEqual(found, wanted)
+                found.clear()
+                parser = simd_json.Parser(**hooks(chosen, found))
+                self.assertEqual(parser.loads(text), json.loads(text, **hooks(chosen, [])))
+                self.assertEqual(found, wanted)
+        self.assertEqual(simd_json.loads("[1,1.5]", parse_int=int, parse_float=float), [1, 1.5])
+        for name in names:
+            for text in ('{"a":{"b":[1,1.5]},"c":{}}', '[1.5,1,{"a":{}}]'):
+                with self.assertRaises(ZeroDivisionError):
+                    simd_json.loads(text, **{name: lambda given: 1 // 0})
+        with self.assertRaisesRegex(TypeError, "NaN, Infinity and -Infinity are rejected"):
+            simd_json.loads("1", parse_constant=float)
+        with self.assertRaisesRegex(TypeError, "cls"):
+            simd_json.loads("1", cls=json.JSONDecoder)
+
+    def test_mutants_with_hooks(self):
+        rng = random.Random(6901)
+        named = {"object_pairs_hook": tuple, "parse_int": str, "parse_float": str}
+        for _ in range(MUTANTS // 10):
+            data = changed(rng)
+            plain, found = by(simd_json.loads, data), by(simd_json.loads, data, **named)
+            if isinstance(plain, simd_json.SimdJsonError):
+                self.assertEqual(str(plain), str(found))
+            else:
+                self.assertEqual(found, json.loads(data.decode(), **named))
+
+    def test_load(self):
+        self.assertEqual(simd_json.load(io.BytesIO(b'{"a":1.50}'), parse_float=str), {"a": "1.50"})
+        self.assertEqual(simd_json.load(io.StringIO("[1]")), [1])
+
+    def test_get(self):
+        """The value at a pointer of each row, and of each value of mutants."""
+        import rows
+
+        judged, document = 0, b""
+        for path in sorted((ROOT / "tests" / "vectors").glob("*.txt")):
+            for line in path.read_bytes().decode().splitlines():
+                question, arrow, answer = line.partition(" => ")
+                word, _, text = question.partition(" ")
+                if word == "document":
+                    document = rows.decoded(line.partition(" ")[2].encode())
+                if word != "pointer" or not arrow:
+                    continue
+                pointer = rows.decoded(text.encode()).decode()
+                wanted = absent if answer.startswith("! ") else json.loads(rows.decoded(answer.encode()))
+                parser = simd_json.Parser()
+                parser.index(document)
+                self.assertEqual(simd_json.get(document, pointer, absent), wanted, line)
+                self.assertEqual(parser.get(pointer, absent), wanted, line)
+                judged += 1
+        self.assertGreater(judged, 100)
+
+        def walk(value, pointer):
+            yield pointer, value
+            members = value.items() if type(value) is dict else enumerate(value) if type(value) is list else ()
+            for key, member in members:
+                yield from walk(member, f"{pointer}/" + str(key).replace("~", "~0").replace("/", "~1"))
+
+        rng, parser = random.Random(1), simd_json.Parser()
+        for _ in range(MUTANTS // 20):
+            data = changed(rng)
+            pairs = by(simd_json.loads, data, object_pairs_hook=lambda pairs: dict(reversed(pairs)))
+            if isinstance(pairs, simd_json.SimdJsonError):  # by what is found nothing is known
+                if not isinstance(by(parser.index, data), simd_json.SimdJsonError):
+                    for pointer in ("", "/0", "/a", "/a/0"):
+                        by(parser.get, pointer)
+                continue
+            parser.index(data)
+            for pointer, value in walk(pairs, ""):
+                self.assertEqual(parser.get(pointer, absent), simd_json.get(data, pointer, absent))
+                if not value:
+                    self.assertEqual(repr(parser.get(pointer, absent)), repr(value), (data, pointer))
+
+    def test_get_s_arguments(self):
+        data = '{"a":[1,{"b/c":"é"}],"wrong":[1,\n01],"deep":[[[]]]}'
+        for kind in (str, str.encode, lambda text: bytearray(text.encode()), lambda text: memoryview(text.encode())):
+            self.assertEqual(simd_json.get(kind(data), "/a/1/b~1c"), "é")
+            self.assertEqual((simd_json.get(kind(data), "/b"), simd_json.get(kind(data), "/b", 7)), (None, 7))
+        self.assertEqual((simd_json.get(data, "a", 1), simd_json.get(data, "/\ud800", 1)), (1, 1))
+        self.assertEqual(simd_json.get(data, "/a", default=1)[0], 1)
+        error = by(simd_json.get, data, "/wrong")
+        self.assertEqual((error.reason, error.doc, error.pos, error.lineno, error.colno), ("InvalidNumber", "[1,\n01]", 5, 2, 2))
+        self.assertEqual(by(simd_json.get, data, "/deep", max_depth=2).reason, "DepthLimitExceeded")
+        self.assertEqual(by(simd_json.get, b'["\xff"]', "/0").reason, "InvalidUtf8")
+        for given in ((data, 1), (1, "/a"), (data, None), (data, b"/a")):
+            with self.assertRaises(TypeError):
+                simd_json.get(*given)
+        parser = simd_json.Parser(parse_float=str, object_hook=lambda found: (parser.get("/1"), found), max_depth=3)
+        self.assertEqual(parser.get("/a", 1), 1)  # nothing is kept
+        parser.index('[{"a":1.50},"next",{"x":[[[]]]}]')
+        self.assertEqual(parser.get("/0"), ("next", {"a": "1.50"}))
+        self.assertEqual((parser.loads("[2.50]"), parser.get("/1")), (["2.50"], "next"))
+        self.assertEqual(by(parser.get, "/2").reason, "DepthLimitExceeded")
+        self.assertEqual(by(parser.index, b'["').reason, "Syntax")
+        self.assertEqual(parser.get("/1", "none"), "none")
+        long = "[" + " " * 100000 + '"' + "x" * 300000 + '"]'
+        parser.index(long)
+        self.assertEqual(parser.get("/0"), "x" * 300000)
+        parser.__init__(max_depth=1)
+        self.assertEqual(by(parser.get, "").__class__, list)
+
+    def test_program(self):
+        with tempfile.TemporaryDirectory() as folder:
+            right, wrong = pathlib.Path(folder, "right"), pathlib.Path(folder, "wrong")
+            right.write_bytes(b"[1]")
+            wrong.write_bytes(b"[1,\n x]")
+            for names, status, out in (([right], 0, ""), ([], 0, ""), ([folder], 3, ""),
+                                       ([wrong, right], 1, f"{wrong}:2:2: expected a value, found `x` [InternalError at byte 5]\n")):
+                ran = subprocess.run([sys.executable, "-m", "simd_json", *map(str, names)], capture_output=True, text=True)
+                self.assertEqual((ran.returncode, ran.stdout), (status, out))
 
     def test_depth(self):
         for depth in (1, 1000, 1024):
@@ -367,10 +502,11 @@ class Kept(unittest.TestCase):
         self.assertEqual([place(error) for error in errors], wanted * 2)
 
     def test_signatures(self):
-        named = {"parse_float": None, "max_depth": 1024}
+        named = dict.fromkeys(("object_hook", "parse_float", "parse_int", "parse_constant", "object_pairs_hook"))
+        named["max_depth"] = 1024
         for call, defaults in ((simd_json.loads, named), (simd_json.check, {"max_depth": 1024}),
                                (simd_json.Parser, named), (simd_json.Parser().loads, {}),
-                               (simd_json.Parser().check, {})):
+                               (simd_json.Parser().check, {}), (simd_json.Parser().index, {})):
             each = inspect.signature(call).parameters.values()
             found = {of.name: of.default for of in each if of.kind == of.KEYWORD_ONLY}
             self.assertEqual(found, defaults)
@@ -378,6 +514,10 @@ class Kept(unittest.TestCase):
             self.assertEqual([of.kind for of in each if of.name not in found],
                              [inspect.Parameter.POSITIONAL_ONLY] * len(data))
             call(*data, **defaults)
+
+    def test_signatures_of_get(self):
+        self.assertEqual(str(inspect.signature(simd_json.get)), "(data, pointer, /, default=None, *, max_depth=1024)")
+        self.assertEqual(str(inspect.signature(simd_json.Parser().get)), "(pointer, /, default=None)")
 
     def test_parse_float_may_begin_its_parser_again(self):
         """The parser then drops its parse_float, which reads the document to its end all the same."""

@@ -1,0 +1,24 @@
+"""python -m simd_json FILE..: prints where and why files are no documents. The status is 1 where one is not, and 3 where one
+can't be read."""
+import sys
+
+from . import SimdJsonError, check
+
+
+def main(names):
+    status = 0
+    for name in names:
+        try:
+            with open(name, "rb") as file:
+                check(file.read())
+        except SimdJsonError as error:
+            print(f"{name}:{error.lineno}:{error.colno}: {error.msg} [{error.reason} at byte {error.pos}]")
+            status = max(status, 1)
+        except OSError as error:
+            print(f"{name}: {error.strerror}", file=sys.stderr)
+            status = 3
+    return status
+
+
+if __name__ == "__main__":
+    sys.exit(main(sys.argv[1:]))
