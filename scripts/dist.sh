@@ -15,7 +15,8 @@ mkdir -p "$parts" "$to/bin" "$to/share/man/man1" "$to/share/bash-completion/comp
 # The library. The loader of glibc 2.33 and later finds the faster one by itself, and pkg-config the folder that it is in.
 make -s install-library into="$v2" PREFIX="$to"
 # shellcheck disable=SC2016
-sed -i 's|^prefix=.*|prefix=${pcfiledir}/../..|' "$to/lib/pkgconfig/simd_json.pc"
+sed -i 's|^prefix=.*|prefix=${pcfiledir}/../..|; s|^Description:.*|&; the static library is for x86-64-v2|' \
+    "$to/lib/pkgconfig/simd_json.pc"
 cp -P "$v3/libsimd_json.so.$version" "$v3/libsimd_json.so.${version%%.*}" "$to/lib/glibc-hwcaps/x86-64-v3/"
 
 # Each program in one file, with both levels.
@@ -29,10 +30,11 @@ for program in "$@"; do
 done
 
 SIMD_JSON_LIB_DIR=$v2 SIMD_JSON_V3_LIB_DIR=$v3 python3 -B python/backend.py "$to/python" > /dev/null
-cp -R bindings/rust/Cargo.toml bindings/rust/build.rs bindings/rust/src "$to/rust/"
+cp -R bindings/rust/Cargo.toml bindings/rust/README.md bindings/rust/build.rs bindings/rust/src "$to/rust/"
 cp LICENSE-MIT LICENSE-APACHE "$to/"
-mkdir -p "$to/examples/c"
+mkdir -p "$to/examples/c" "$to/examples/log"
 cp examples/c/answer.c "$to/examples/c/"
+for file in log.c log.cpp log.py log.rs Cargo.toml log.jsonl; do cp "examples/log/$file" "$to/examples/log/"; done
 { printf '# simd_json %s\n' "$version" && sed -n '/^### From the release/,/^### /{/^### /d;p;}' README.md; } > "$to/README.md"
 
 (cd "$to" && find . -type f | LC_ALL=C sort | xargs sha256sum) > "$parts/SHA256SUMS"

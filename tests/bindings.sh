@@ -73,6 +73,8 @@ if command -v c++ > /dev/null; then
     for case in 4 5; do rejects $case 'deleted.*root'; done
     for case in 6 7; do rejects $case 'deleted.*element'; done
     rejects 8 'operator\[\]'
+    rejects 9 'deleted.*find'
+    rejects 10 'operator=='
 else
     left_out="$left_out C++ (no c++);"
 fi
@@ -80,6 +82,15 @@ fi
 if python3 -c 'import sysconfig, os; raise SystemExit(not os.path.exists(sysconfig.get_paths()["include"] + "/Python.h"))' 2> /dev/null; then
     run python3 -B python/backend.py "$room"
     run python3 -m zipfile -e "$room"/simd_json-*.whl "$room/site"
+    grep -q '^# simd_json for Python$' "$room/site"/simd_json-*.dist-info/METADATA || { echo "METADATA lacks README.md"; exit 1; }
+    # Each Python that there is, in an environment of its own.
+    for python in python3.10 python3.11 python3.12 python3.13 "${PYENV_ROOT:-$HOME/.pyenv}"/versions/3.1[0-3].*/bin/python3; do
+        "$python" -c 'import venv, ensurepip' 2> /dev/null || continue
+        rm -rf "$room/fresh"
+        run "$python" -m venv "$room/fresh"
+        run "$room/fresh/bin/pip" install -q --no-index "$room"/simd_json-*.whl
+        MUTANTS=2000 ROUNDS=400 run "$room/fresh/bin/python" -m unittest discover -s python/tests
+    done
     export PYTHONPATH="$room/site" PYTHONDONTWRITEBYTECODE=1
     run python3 -m unittest discover -s python/tests
     include=$(python3 -c 'import sysconfig; print(sysconfig.get_paths()["include"])')
@@ -129,12 +140,31 @@ else
     left_out="$left_out Python (no python3 with its headers);"
 fi
 
+# A copy of the crate, whose manifest may change, beside the rows that it reads.
 if command -v cargo > /dev/null; then
+    mkdir "$room/bindings"
+    cp -R bindings/rust "$room/bindings/"
+    rm -f "$room/bindings/rust/Cargo.lock"
+    ln -s "$top/tests" "$room/tests"
+    cd "$room/bindings/rust"
+    no_serde=$(sh "$top/tests/serde.sh" "$room" .)
+    left_out="$left_out$no_serde"
     export CARGO_TARGET_DIR="$room/target" SIMD_JSON_LIB_DIR="$top/build"
-    run cargo test --offline -q --manifest-path bindings/rust/Cargo.toml
+    run cargo test --offline -q
+    if [ -z "$no_serde" ]; then
+        run cargo test --offline -q --no-default-features --tests
+        run env RUSTDOCFLAGS='-D warnings' cargo doc --offline -q --no-deps
+        if cargo clippy --version > /dev/null 2>&1; then
+            run cargo clippy --offline -q --all-targets -- -D warnings
+            run cargo clippy --offline -q --no-default-features -- -D warnings
+        else
+            left_out="$left_out clippy (not installed);"
+        fi
+    fi
     # What the test harness still holds in the end is no leak of the crate's.
-    [ -z "$check" ] || CARGO_TARGET_X86_64_UNKNOWN_LINUX_GNU_RUNNER="$check --errors-for-leak-kinds=definite" \
-        run cargo test --offline -q --manifest-path bindings/rust/Cargo.toml
+    [ -z "$check" ] || CARGO_TARGET_X86_64_UNKNOWN_LINUX_GNU_RUNNER="$check --errors-for-leak-kinds=definite" MUTANTS=500 \
+        run cargo test --offline -q --tests
+    cd "$top"
 else
     left_out="$left_out Rust (no cargo);"
 fi

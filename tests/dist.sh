@@ -3,7 +3,8 @@
 # needs of the C library, manual pages, programs in C, C++, Python and Rust over it, and library and programs at both levels of
 # the processor. Silent where all is well but for a line of what was left out; else it says what differs, and ends with status 1.
 set -eu
-cd "$(dirname "$0")/.."
+top=$(cd "$(dirname "$0")/.." && pwd)
+cd "$top"
 headers='import os, sysconfig; raise SystemExit(not os.path.exists(sysconfig.get_paths()["include"] + "/Python.h"))'
 if ! command -v cc > /dev/null || ! command -v objcopy > /dev/null || ! python3 -c "$headers" 2> /dev/null; then
     echo "tests/dist.sh: left out: all of it, for want of a C compiler, binutils, or Python with its headers"
@@ -64,21 +65,45 @@ else
     left_out="$left_out manual pages (no groff);"
 fi
 
-# C and C++, over the static library, the shared one, and what pkg-config finds.
-cc examples/c/answer.c "-I$at/include" "$at/lib/libsimd_json.a" -o "$room/static"
+# What each program of examples/log prints of log.jsonl, and its status.
+cd "$at/examples/log"
+log='200 /index.html
+404 /café
+log.jsonl:3:59: expected a value, found `}`
+log.jsonl:4: no status, or no path
+200 /
+status 1'
+prints_log() {
+    prints "$1" "$log" sh -c '"$@" log.jsonl || echo "status $?"' sh "$@"
+}
+
+# C and C++, over the static library, the shared one, and what pkg-config and cmake find.
+cc log.c "-I$at/include" "$at/lib/libsimd_json.a" -o "$room/log_c"
+prints_log "$room/log_c"
+cc ../c/answer.c "-I$at/include" "$at/lib/libsimd_json.a" -o "$room/static"
 prints 'C, static' 42 "$room/static"
-cc examples/c/answer.c "-I$at/include" "-L$at/lib" -lsimd_json -o "$room/shared"
+cc ../c/answer.c "-I$at/include" "-L$at/lib" -lsimd_json -o "$room/shared"
 prints 'C, shared' 42 env LD_LIBRARY_PATH="$at/lib" "$room/shared"
 if command -v pkg-config > /dev/null; then
     export PKG_CONFIG_PATH="$at/lib/pkgconfig"
     # shellcheck disable=SC2046
-    cc examples/c/answer.c $(pkg-config --cflags --libs "simd_json = $version") -o "$room/found"
+    cc ../c/answer.c $(pkg-config --cflags --libs "simd_json = $version") -o "$room/found"
     prints 'C, by pkg-config' 42 env LD_LIBRARY_PATH="$at/lib" "$room/found"
+    # shellcheck disable=SC2046
+    cc -static ../c/answer.c $(pkg-config --static --cflags --libs simd_json) -o "$room/alone"
+    prints 'C, by pkg-config --static' 42 "$room/alone"
 else
     left_out="$left_out pkg-config (not installed);"
 fi
+if command -v cmake > /dev/null; then
+    sh "$top/tests/cmake.sh" "$at" "$room/cmake"
+else
+    left_out="$left_out CMake (not installed);"
+fi
 if command -v c++ > /dev/null; then
-    c++ -std=c++17 tests/c/wrapper.cpp "-I$at/include" "$at/lib/libsimd_json.a" -o "$room/wrapper"
+    c++ -std=c++17 log.cpp "-I$at/include" "$at/lib/libsimd_json.a" -o "$room/log_cpp"
+    prints_log "$room/log_cpp"
+    c++ -std=c++17 "$top/tests/c/wrapper.cpp" "-I$at/include" "$at/lib/libsimd_json.a" -o "$room/wrapper"
     prints 'C++' '' "$room/wrapper"
 else
     left_out="$left_out C++ (no c++);"
@@ -90,25 +115,20 @@ if python3 -m pip --version > /dev/null 2>&1; then
         prints "Python, $level" "42 $version" env SIMD_JSON_CPU=$level PYTHONPATH="$room/site" python3 -B -c \
             'import simd_json; print(simd_json.loads(b"[42]")[0], simd_json.__version__)'
     done
+    prints_log env PYTHONPATH="$room/site" python3 -B log.py
 else
     left_out="$left_out Python (no pip);"
 fi
 
 if command -v cargo > /dev/null; then
-    mkdir "$room/answer"
-    printf '[package]\nname = "answer"\nversion = "0.0.0"\n[[bin]]\nname = "answer"\npath = "main.rs"\n' > "$room/answer/Cargo.toml"
-    printf '[dependencies]\nsimd-json-proved = { path = "%s/rust" }\n' "$at" >> "$room/answer/Cargo.toml"
-    cat > "$room/answer/main.rs" << 'END'
-fn main() {
-    let mut input = *br#"{"the_answer": 42}"#;
-    let tape = simd_json_proved::to_tape(&mut input).unwrap();
-    println!("{}", tape.as_value().get("the_answer").and_then(|value| value.as_u64()).unwrap());
-}
-END
-    prints Rust 42 cargo run --offline -q --manifest-path "$room/answer/Cargo.toml"
+    left_out="$left_out$(sh "$top/tests/serde.sh" "$room" "$at/rust")"
+    run cargo build --offline -q --release --target-dir "$room/target"
+    prints_log "$room/target/release/log"
 else
     left_out="$left_out Rust (no cargo);"
 fi
+
+cd "$top"
 
 # Both levels: of the library the rows of tests/vectors, of the programs what is known of them, and which of two is begun.
 mkdir "$room/slow"

@@ -1,0 +1,29 @@
+// log.cpp: prints status and path of each line of a log, and where and why a line is no document.
+// c++ -std=c++17 log.cpp $(pkg-config --cflags --libs simd_json) -o log && ./log log.jsonl
+#include <fstream>
+#include <iostream>
+#include <simd_json.hpp>
+
+int main(int argc, char **argv) {
+    if (argc != 2) {
+        std::cerr << "log FILE\n";
+        return 2;
+    }
+    std::ifstream file(argv[1]);
+    simd_json::parser parser;
+    std::string line;
+    bool is_right = true;
+    for (size_t number = 1; std::getline(file, line); number++) {
+        try {
+            const auto root = parser.parse(line);
+            std::cout << root["status"].as_uint64().value() << ' ' << root["path"].as_string().value() << '\n';
+            continue;
+        } catch (const simd_json::error &e) {
+            std::cout << argv[1] << ':' << number << ':' << e.column() << ": " << e.reason() << '\n';
+        } catch (const std::exception &) { // there is no such member, or it is of another kind
+            std::cout << argv[1] << ':' << number << ": no status, or no path\n";
+        }
+        is_right = false;
+    }
+    return !is_right;
+}
