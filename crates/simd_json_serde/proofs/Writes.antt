@@ -1,12 +1,13 @@
 -- The steps of a text that is being written.
 use Rattle.std.proofs.Common.{◌≡◌, ◌∙◌, ap, ap₂, sym, refl, subst, ◌-◌, ℕ, suc, Bool, true, List, [], ◌∷◌, ◌++◌, length}
 use Rattle.std.proofs.Common.{length-append, append_assoc, append-nil, arith, ◌==◌, slice_get, Option, Some}
-use Rattle.std.proofs.Common.{None, take, Result, Ok, Err, OnOk, is_some}
+use Rattle.std.proofs.Common.{◌+◌, ◌<◌, false, get_or, None, take, Result, Ok, Err, OnOk, is_some, IsUtf8}
 use Rattle.std.specs.Prelude.{option_to_list}
 use Rattle.std.proofs.Math.Seq.{take-append_seam}
+use Rattle.std.proofs.lemmas.List.{take_more}
 use Rattle.std.proofs.lemmas.Grind.{common_steps}
 use Rattle.simd_json_parts.specs.Bytes.{comma, left_bracket, right_bracket, left_brace, right_brace}
-use Rattle.simd_json_parts.specs.Document.{Document, array, object, Elements, no_elements, element, Members, no_members, member}
+use Rattle.simd_json_parts.specs.Document.{Document, integer, array, object, Elements, no_elements, element, Members, no_members, member}
 use Rattle.simd_json_parts.specs.Printed.{line, after_name, quoted, text, elements_text, members_text}
 use Rattle.simd_json_serde.specs.declared.draft.Draft.{Draft}
 use Rattle.simd_json_serde.specs.declared.draft.Open.{Open}
@@ -16,7 +17,8 @@ use Rattle.simd_json_serde.specs.declared.draft.Place.TheVariants.{Start, FirstE
 use Rattle.simd_json_serde.specs.Written.{Part, whole, elements_part, members_part, named_part}
 use Rattle.simd_json_serde.specs.Written.{then_element, then_member, with_value, with_name, with_end}
 use Rattle.simd_json_serde.specs.Written.{elements_comma, elements_front, members_front, name_text, before, so_far}
-use Rattle.simd_json_serde.specs.Written.{place_of, open_in, AwaitValues, AreNested, HasWritten, IsBefore, Steps}
+use Rattle.simd_json_serde.specs.Written.{place_of, open_in, AwaitValues, AreNested, HasWritten, IsBefore, IsSound, Steps, integers}
+use Rattle.simd_json_serde.proofs.Sound.{value-sound, name-sound}
 
 -- ---- lists that are joined
 
@@ -103,11 +105,11 @@ place_after None = End
 place_after (Some Array) = NextElement
 place_after (Some Object) = NextKey
 
-at-seam : (xs : List Open) (k : Open) → slice_get (xs ++ k ∷ []) (length xs) ≡ Some k
+at-seam : {A : Type 0} (xs : List A) (k : A) → slice_get (xs ++ k ∷ []) (length xs) ≡ Some k
 at-seam [] k = refl
 at-seam (x ∷ xs) k = at-seam xs k
 
-last-of : (xs : List Open) (k : Open) → slice_get (xs ++ k ∷ []) (length (xs ++ k ∷ []) - 1) ≡ Some k
+pub last-of : {A : Type 0} (xs : List A) (k : A) → slice_get (xs ++ k ∷ []) (length (xs ++ k ∷ []) - 1) ≡ Some k
 last-of xs k =
     let one : length (xs ++ k ∷ []) - 1 ≡ length xs = omega (arith, length-append xs (k ∷ [])) in
     ap (λ n. slice_get (xs ++ k ∷ []) n) one ∙ at-seam xs k
@@ -124,12 +126,13 @@ place-put d (named_part (member j e ms) k ∷ outer) await = ap place_after (las
 
 pub value-put : {n : ℕ} (old new : Draft n) (d : Document) (parts : List Part) (last : Option Open)
     → last ≡ slice_get old.containers.items (length old.containers.items - 1) → new.place ≡ place_after last
-    → new.containers ≡ old.containers → new.out ≡ old.out
+    → new.containers ≡ old.containers → new.out ≡ old.out → IsSound d
     → IsBefore old parts (text (n == 1) d (length parts)) → HasWritten new (with_value d parts)
-value-put {n} old new d parts last is place kept out b = record {
+value-put {n} old new d parts last is place kept out one b = record {
   place = place ∙ ap place_after (is ∙ ap (λ o. slice_get o (length o - 1)) b.containers) ∙ place-put d parts b.await;
   containers = ap (λ o. o.items) kept ∙ b.containers ∙ sym (open-put d parts b.await);
   nested = nested-put d parts b.await;
+  sound = value-sound d one parts b.sound;
   out = ap (λ o. o.items) out ∙ b.out ∙ sym (put-text (n == 1) d parts b.await);
 }
 
@@ -194,6 +197,7 @@ value-led {n} old new parts takes kept out h =
     record {
       containers = ap (λ o. o.items) kept ∙ h.containers;
       await = await;
+      sound = h.sound;
       out = out ∙ ap₂ (λ xs k. xs ++ lead_at (n == 1) old.place k) h.out deep
           ∙ ap (λ q. so_far (n == 1) parts ++ lead_at (n == 1) q (length parts)) h.place
           ∙ lead-text (n == 1) parts await ∙ sym (append-nil (before (n == 1) parts));
@@ -218,28 +222,6 @@ comma-led {n} {E} (Ok u) old new mid here is kept out =
     led-by {E = E} (Ok u) NextElement old new here tt kept
     (out ∙ ap (λ s. s ++ line (n == 1) (length old.containers.items)) is ∙ append_assoc old.out.items (comma ∷ []) _)
 comma-led (Err e) old new mid here is kept out = tt
-
--- ---- a container begins
-
-pub array-begun : {n : ℕ} (old mid new : Draft n) (parts : List Part) → IsBefore mid parts [] → new.place ≡ FirstElement
-    → new.containers.items ≡ mid.containers.items ++ Array ∷ [] → new.out.items ≡ mid.out.items ++ left_bracket ∷ []
-    → HasWritten new (elements_part no_elements ∷ parts)
-array-begun {n} old mid new parts b place kept out = record {
-  place = place;
-  containers = kept ∙ ap (λ o. o ++ Array ∷ []) b.containers;
-  nested = b.await;
-  out = out ∙ ap (λ o. o ++ left_bracket ∷ []) (b.out ∙ append-nil (before (n == 1) parts));
-}
-
-pub object-begun : {n : ℕ} (old mid new : Draft n) (parts : List Part) → IsBefore mid parts [] → new.place ≡ FirstKey
-    → new.containers.items ≡ mid.containers.items ++ Object ∷ [] → new.out.items ≡ mid.out.items ++ left_brace ∷ []
-    → HasWritten new (members_part no_members ∷ parts)
-object-begun {n} old mid new parts b place kept out = record {
-  place = place;
-  containers = kept ∙ ap (λ o. o ++ Object ∷ []) b.containers;
-  nested = b.await;
-  out = out ∙ ap (λ o. o ++ left_brace ∷ []) (b.out ∙ append-nil (before (n == 1) parts));
-}
 
 -- ---- a container ends
 
@@ -309,6 +291,7 @@ ended-before {n} old mid outer f kind k bracket value await kinds all popped out
     record {
       containers = front;
       await = await;
+      sound = h.sound.1;
       out = out ∙ ap₂ (λ xs j. xs ++ (end_line (n == 1) old.place j ++ bracket ∷ [])) h.out deep
           ∙ ap (λ q. so_far (n == 1) (f ∷ outer) ++ (end_line (n == 1) q (length outer) ++ bracket ∷ [])) h.place ∙ all;
     }
@@ -316,12 +299,12 @@ ended-before {n} old mid outer f kind k bracket value await kinds all popped out
 array-ended : {n : ℕ} (old mid new : Draft n) (parts : List Part) (k : Open) → TakesArrayEnd old.place
     → old.containers.items ≡ mid.containers.items ++ k ∷ []
     → mid.out.items ≡ old.out.items ++ (end_line (n == 1) old.place (length mid.containers.items) ++ right_bracket ∷ [])
-    → ((d : Document) (ps : List Part) → IsBefore mid ps (text (n == 1) d (length ps)) → HasWritten new (with_value d ps))
+    → ((d : Document) (ps : List Part) → IsSound d → IsBefore mid ps (text (n == 1) d (length ps)) → HasWritten new (with_value d ps))
     → HasWritten old parts → HasWritten new (with_end parts)
 array-ended old mid new [] k takes popped out put h = absurd (subst TakesArrayEnd h.place takes)
 array-ended old mid new (whole d ∷ outer) k takes popped out put h = absurd (subst TakesArrayEnd h.place takes)
 array-ended {n} old mid new (elements_part ds ∷ outer) k takes popped out put h =
-    put (array ds) outer (ended-before old mid outer (elements_part ds) Array k right_bracket _ h.nested refl
+    put (array ds) outer h.sound.0 (ended-before old mid outer (elements_part ds) Array k right_bracket _ h.nested refl
     (array-end-text (n == 1) outer ds) popped out h)
 array-ended old mid new (members_part no_members ∷ outer) k takes popped out put h = absurd (subst TakesArrayEnd h.place takes)
 array-ended old mid new (members_part (member j d ms) ∷ outer) k takes popped out put h = absurd (subst TakesArrayEnd h.place takes)
@@ -330,14 +313,14 @@ array-ended old mid new (named_part ms j ∷ outer) k takes popped out put h = a
 object-ended : {n : ℕ} (old mid new : Draft n) (parts : List Part) (k : Open) → TakesName old.place
     → old.containers.items ≡ mid.containers.items ++ k ∷ []
     → mid.out.items ≡ old.out.items ++ (end_line (n == 1) old.place (length mid.containers.items) ++ right_brace ∷ [])
-    → ((d : Document) (ps : List Part) → IsBefore mid ps (text (n == 1) d (length ps)) → HasWritten new (with_value d ps))
+    → ((d : Document) (ps : List Part) → IsSound d → IsBefore mid ps (text (n == 1) d (length ps)) → HasWritten new (with_value d ps))
     → HasWritten old parts → HasWritten new (with_end parts)
 object-ended old mid new [] k takes popped out put h = absurd (subst TakesName h.place takes)
 object-ended old mid new (whole d ∷ outer) k takes popped out put h = absurd (subst TakesName h.place takes)
 object-ended old mid new (elements_part no_elements ∷ outer) k takes popped out put h = absurd (subst TakesName h.place takes)
 object-ended old mid new (elements_part (element d ds) ∷ outer) k takes popped out put h = absurd (subst TakesName h.place takes)
 object-ended {n} old mid new (members_part ms ∷ outer) k takes popped out put h =
-    put (object ms) outer (ended-before old mid outer (members_part ms) Object k right_brace _ h.nested refl
+    put (object ms) outer h.sound.0 (ended-before old mid outer (members_part ms) Object k right_brace _ h.nested refl
     (object-end-text (n == 1) outer ms) popped out h)
 object-ended old mid new (named_part ms j ∷ outer) k takes popped out put h = absurd (subst TakesName h.place takes)
 
@@ -345,7 +328,7 @@ pub array-put : {n : ℕ} (old mid new : Draft n) (lined : List ℕ) (popped : O
     → TakesArrayEnd old.place × (lined ≡ old.out.items ++ end_line (n == 1) old.place (length mid.containers.items))
     → old.containers.items ≡ mid.containers.items ++ option_to_list popped → is_some popped ≡ true
     → mid.out.items ≡ lined ++ right_bracket ∷ []
-    → ((d : Document) (ps : List Part) → IsBefore mid ps (text (n == 1) d (length ps)) → HasWritten new (with_value d ps))
+    → ((d : Document) (ps : List Part) → IsSound d → IsBefore mid ps (text (n == 1) d (length ps)) → HasWritten new (with_value d ps))
     → Steps with_end old new
 array-put old mid new lined None (takes, is) less some out put = cc
 array-put old mid new lined (Some k) (takes, is) less some out put = record {
@@ -358,7 +341,7 @@ pub object-put : {n : ℕ} (old mid new : Draft n) (lined : List ℕ) (popped : 
     → TakesName old.place × (lined ≡ old.out.items ++ end_line (n == 1) old.place (length mid.containers.items))
     → old.containers.items ≡ mid.containers.items ++ option_to_list popped → is_some popped ≡ true
     → mid.out.items ≡ lined ++ right_brace ∷ []
-    → ((d : Document) (ps : List Part) → IsBefore mid ps (text (n == 1) d (length ps)) → HasWritten new (with_value d ps))
+    → ((d : Document) (ps : List Part) → IsSound d → IsBefore mid ps (text (n == 1) d (length ps)) → HasWritten new (with_value d ps))
     → Steps with_end old new
 object-put old mid new lined None (takes, is) less some out put = cc
 object-put old mid new lined (Some k) (takes, is) less some out put = record {
@@ -386,40 +369,69 @@ name-text : (p : Bool) (ms : Members) (outer : List Part) (k : List ℕ)
 name-text p no_members outer k = append_assoc (before p outer) _ _
 name-text p (member j d ms) outer k = append_assoc (before p outer) _ _
 
-named : {n : ℕ} (old new : Draft n) (parts : List Part) (k : List ℕ) → TakesName old.place → new.place ≡ Member
+named : {n : ℕ} (old new : Draft n) (parts : List Part) (k : List ℕ) → IsUtf8 k → TakesName old.place → new.place ≡ Member
     → new.containers ≡ old.containers
     → new.out.items ≡ old.out.items ++ (name_lead old.place
     ++ (line (n == 1) (length old.containers.items) ++ (quoted k ++ after_name (n == 1))))
     → HasWritten old parts → HasWritten new (with_name k parts)
-named old new [] k takes place kept out h = absurd (subst TakesName h.place takes)
-named old new (whole d ∷ outer) k takes place kept out h = absurd (subst TakesName h.place takes)
-named old new (elements_part no_elements ∷ outer) k takes place kept out h = absurd (subst TakesName h.place takes)
-named old new (elements_part (element d ds) ∷ outer) k takes place kept out h = absurd (subst TakesName h.place takes)
-named {n} old new (members_part ms ∷ outer) k takes place kept out h =
+named old new [] k utf8 takes place kept out h = absurd (subst TakesName h.place takes)
+named old new (whole d ∷ outer) k utf8 takes place kept out h = absurd (subst TakesName h.place takes)
+named old new (elements_part no_elements ∷ outer) k utf8 takes place kept out h = absurd (subst TakesName h.place takes)
+named old new (elements_part (element d ds) ∷ outer) k utf8 takes place kept out h = absurd (subst TakesName h.place takes)
+named {n} old new (members_part ms ∷ outer) k utf8 takes place kept out h =
     let deep : length old.containers.items ≡ suc (length outer) =
     ap length h.containers ∙ omega (arith, length-append (open_in outer) (Object ∷ []), open-length outer h.nested) in
     record {
       place = place;
       containers = ap (λ o. o.items) kept ∙ h.containers;
       nested = h.nested;
+      sound = name-sound k utf8 (members_part ms ∷ outer) h.sound;
       out = out ∙ ap₂ (λ xs j. xs ++ (name_lead old.place ++ (line (n == 1) j ++ (quoted k ++ after_name (n == 1))))) h.out deep
           ∙ ap (λ q. so_far (n == 1) (members_part ms ∷ outer)
           ++ (name_lead q ++ (line (n == 1) (suc (length outer)) ++ (quoted k ++ after_name (n == 1))))) h.place
           ∙ name-text (n == 1) ms outer k;
     }
-named old new (named_part ms j ∷ outer) k takes place kept out h = absurd (subst TakesName h.place takes)
+named old new (named_part ms j ∷ outer) k utf8 takes place kept out h = absurd (subst TakesName h.place takes)
 
-pub name-put : {n : ℕ} (old mid lined new : Draft n) (quote k : List ℕ)
+pub name-put : {n : ℕ} (old mid lined new : Draft n) (quote k : List ℕ) → IsUtf8 k
     → TakesName old.place × (mid.out.items ≡ old.out.items ++ name_lead old.place) × (mid.containers ≡ old.containers)
     → lined.out.items ≡ mid.out.items ++ line (n == 1) (length mid.containers.items) → lined.containers ≡ mid.containers
     → quote ≡ lined.out.items ++ quoted k → new.out.items ≡ quote ++ after_name (n == 1) → new.containers ≡ lined.containers
     → new.place ≡ Member → Steps (with_name k) old new
-name-put {n} old mid lined new quote k (takes, led, same) line_is line_kept quote_is out kept place = record {
+name-put {n} old mid lined new quote k utf8 (takes, led, same) line_is line_kept quote_is out kept place = record {
   live = λ failed. absurd (subst TakesName failed takes);
   written = λ parts h.
-      named old new parts k takes place (kept ∙ line_kept ∙ same)
+      named old new parts k utf8 takes place (kept ∙ line_kept ∙ same)
       (out ∙ ap (λ xs. xs ++ after_name (n == 1)) (quote_is ∙ ap (λ xs. xs ++ quoted k) (line_is
       ∙ ap₂ (λ xs o. xs ++ line (n == 1) (length o.items)) led same))
       ∙ sym (joined_five old.out.items (name_lead old.place) (line (n == 1) (length old.containers.items)) (quoted k)
       (after_name (n == 1)))) h;
 }
+
+-- ---- an array of bytes
+
+integers-more : (bs : List ℕ) (b : ℕ) → integers (bs ++ b ∷ []) ≡ then_element (integers bs) (integer false b)
+integers-more [] b = refl
+integers-more (x ∷ xs) b = ap (element (integer false x)) (integers-more xs b)
+
+pub byte-put : {n : ℕ} (old mid new : Draft n) (bs : List ℕ) (i : ℕ) → i < length bs
+    → Steps (λ parts. elements_part (integers (take i bs)) ∷ parts) old mid
+    → Steps (with_value (integer false (get_or bs i 0))) mid new
+    → Steps (λ parts. elements_part (integers (take (i + 1) bs)) ∷ parts) old new
+byte-put old mid new bs i less before_it it = record {
+  live = before_it.live;
+  written = λ parts h.
+      subst (λ es. HasWritten new (elements_part es ∷ parts))
+      (sym (ap integers (take_more bs i 0 less) ∙ integers-more (take i bs) (get_or bs i 0)))
+      (it.written _ (before_it.written parts h));
+}
+
+pub bytes-put : {n : ℕ} {E : Type 0} (r : Result Unit E) (old mid new : Draft n) (bs : List ℕ) (i : ℕ) → take i bs ≡ bs
+    → Steps (λ parts. elements_part (integers (take i bs)) ∷ parts) old mid → OnOk r (Steps with_end mid new)
+    → OnOk r (Steps (with_value (array (integers bs))) old new)
+bytes-put (Ok u) old mid new bs i all before_it end = record {
+  live = before_it.live;
+  written = λ parts h.
+      subst (λ xs. HasWritten new (with_value (array (integers xs)) parts)) all (end.written _ (before_it.written parts h));
+}
+bytes-put (Err e) old mid new bs i all before_it end = tt

@@ -5,4 +5,9 @@ pub mod Faults
 pub mod Outcomes
 pub mod Kept
 pub mod Written
+pub mod Noted
+pub mod Sent
+pub mod WriteFaults
 pub mod WrittenOut
+pub mod Words
+pub mod Messages

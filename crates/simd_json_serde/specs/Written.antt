@@ -9,16 +9,14 @@ use Rattle.simd_json_theorems.specs.Spellable.{IsSpellable}
 use Rattle.simd_json_serde.specs.declared.draft.Draft.{Draft}
 use Rattle.simd_json_serde.specs.declared.draft.Open.{Open}
 use Rattle.simd_json_serde.specs.declared.draft.Open.TheVariants.{Array, Object}
+use Rattle.simd_json_serde.specs.declared.write_error.WriteError.{WriteError}
+use Rattle.simd_json_serde.specs.declared.write_error.WriteError.TheVariants.{Misplaced, OutOfMemory}
 use Rattle.simd_json_serde.specs.declared.draft.Place.{Place}
 use Rattle.simd_json_serde.specs.declared.draft.Place.TheVariants.{Start, FirstElement, NextElement, FirstKey, NextKey, Member, End, Failed}
 
 -- a document that can be spelled, with integers in the range of a tape
 abbrev pub IsSound : Document → Type 0
 IsSound d = IsSpellable d × IntegersFit d
-
--- the compact or the pretty text of such a document
-abbrev pub IsPrinted : Bool → List ℕ → Type 0
-IsPrinted p b = (d : Document) × IsSound d × (b ≡ text p d 0)
 
 -- what is written: the whole, or of a container its elements or members, the last of which may be a name alone
 pub data Part : Type 0 where
@@ -138,17 +136,31 @@ AreNested (elements_part ds ∷ outer) = AwaitValues outer
 AreNested (members_part ms ∷ outer) = AwaitValues outer
 AreNested (named_part ms k ∷ outer) = AwaitValues outer
 
+-- ---- the documents in them
+
+abbrev pub PartIsSound : Part → Type 0
+PartIsSound (whole d) = IsSound d
+PartIsSound (elements_part ds) = IsSound (array ds)
+PartIsSound (members_part ms) = IsSound (object ms)
+PartIsSound (named_part ms k) = IsSound (object (then_member ms k null))
+
+abbrev pub PartsAreSound : List Part → Type 0
+PartsAreSound [] = ⊤
+PartsAreSound (f ∷ outer) = PartIsSound f × PartsAreSound outer
+
 -- the draft has the text of these
 pub record HasWritten {n : ℕ} (w : Draft n) (parts : List Part) : Type 0 where
   pub place : w.place ≡ place_of parts
   pub containers : w.containers.items ≡ open_in parts
   pub nested : AreNested parts
+  pub sound : PartsAreSound parts
   pub out : w.out.items ≡ so_far (n == 1) parts
 
 -- the same with what stands before the next value, and this text of one, whatever the place
 pub record IsBefore {n : ℕ} (w : Draft n) (parts : List Part) (value : List ℕ) : Type 0 where
   pub containers : w.containers.items ≡ open_in parts
   pub await : AwaitValues parts
+  pub sound : PartsAreSound parts
   pub out : w.out.items ≡ before (n == 1) parts ++ value
 
 -- ---- steps; none was possible after a failure
@@ -166,34 +178,68 @@ abbrev pub Names : {n : ℕ} → List ℕ → Draft n → Draft n → Type 0
 Names k old new = Steps (with_name k) old new
 
 -- a value, or where a key is written its text as a name
+abbrev pub with_scalar : Bool → Document → List ℕ → List Part → List Part
+with_scalar true d t parts = with_name t parts
+with_scalar false d t parts = with_value d parts
+
 abbrev pub Sets : {n : ℕ} → Bool → Document → List ℕ → Draft n → Draft n → Type 0
-Sets at_key d t old new = (at_key ≡ false → Puts d old new) × (at_key ≡ true → Names t old new)
+Sets at_key d t old new = Steps (with_scalar at_key d t) old new
 
 -- in either form and at any depth
 abbrev pub IsTextOf : Document → List ℕ → Type 0
 IsTextOf d t = (p : Bool) (n : ℕ) → text p d n ≡ t
 
--- ---- after any steps
-
-abbrev pub PartIsSound : Part → Type 0
-PartIsSound (whole d) = IsSound d
-PartIsSound (elements_part ds) = IsSound (array ds)
-PartIsSound (members_part ms) = IsSound (object ms)
-PartIsSound (named_part ms k) = IsSound (object (then_member ms k null))
-
-abbrev pub PartsAreSound : List Part → Type 0
-PartsAreSound [] = ⊤
-PartsAreSound (f ∷ outer) = PartIsSound f × PartsAreSound outer
-
--- a beginning of a sound document's text, unless a step failed
-abbrev pub IsBegun : {n : ℕ} → Draft n → Type 0
-IsBegun w = (w.place ≡ Failed) ⊎ ((parts : List Part) × HasWritten w parts × PartsAreSound parts)
-
--- what was begun is begun still
-abbrev pub Keeps : {n : ℕ} → Draft n → Draft n → Type 0
-Keeps old new = ∥ IsBegun old ∥₁ → ∥ IsBegun new ∥₁
-
 -- the document of an integer
 abbrev pub integer_of : ℤ → Document
 integer_of (pos n) = integer false n
 integer_of (negsuc n) = integer true (suc n)
+
+-- the elements for bytes
+abbrev pub integers : List ℕ → Elements
+integers [] = no_elements
+integers (b ∷ bs) = element (integer false b) (integers bs)
+
+-- ---- what may come next, and why a step failed
+
+abbrev pub takes_value : Place → Bool
+takes_value Start = true
+takes_value FirstElement = true
+takes_value NextElement = true
+takes_value FirstKey = false
+takes_value NextKey = false
+takes_value Member = true
+takes_value End = false
+takes_value Failed = false
+
+abbrev pub takes_name : Place → Bool
+takes_name Start = false
+takes_name FirstElement = false
+takes_name NextElement = false
+takes_name FirstKey = true
+takes_name NextKey = true
+takes_name Member = false
+takes_name End = false
+takes_name Failed = false
+
+-- a value, or where a key is written a name
+abbrev pub takes_scalar : Bool → Place → Bool
+takes_scalar true p = takes_name p
+takes_scalar false p = takes_value p
+
+-- memory, or that such a step is not possible here
+abbrev pub IsFault : Bool → WriteError → Type 0
+IsFault possible e = (e ≡ OutOfMemory) ⊎ ((possible ≡ false) × (e ≡ Misplaced))
+
+abbrev pub ends_array : Place → Bool
+ends_array Start = false
+ends_array FirstElement = true
+ends_array NextElement = true
+ends_array FirstKey = false
+ends_array NextKey = false
+ends_array Member = false
+ends_array End = false
+ends_array Failed = false
+
+-- the same of the end of a container: of none that is open there is one
+abbrev pub IsEndFault : Bool → List Open → WriteError → Type 0
+IsEndFault possible containers e = (e ≡ OutOfMemory) ⊎ (((possible ≡ false) ⊎ (containers ≡ [])) × (e ≡ Misplaced))

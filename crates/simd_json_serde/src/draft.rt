@@ -1,11 +1,11 @@
 //! A text that is being written.
-ghost use Rattle.std.specs.Prelude.{◌≡◌, ◌≢◌, ◌==◌, ◌++◌, ◌∷◌, [], ℕ, List, length, false};
-ghost use Rattle.std.specs.Prelude.{OnOk, OnErr};
-ghost use Rattle.std.specs.Float.{binary32, binary64};
+ghost use Rattle.std.specs.Prelude.{◌≡◌, ◌≢◌, ◌⊎◌, ◌==◌, ◌++◌, ◌∷◌, [], ℕ, List, length, false};
+ghost use Rattle.std.specs.Prelude.{IfErr, OnOk, OnErr};
+ghost use Rattle.std.specs.Float.{binary32, binary64, float_is_finite};
 ghost use Rattle.std.specs.Fmt.{signed_decimal, decimal as decimal_digits};
 ghost use Rattle.fast_float.specs.Parse.{parse_float};
 ghost use Rattle.simd_json_parts.specs.Document.{Document, null, boolean, integer, decimal, string};
-ghost use Rattle.simd_json_parts.specs.Document.{no_elements, no_members};
+ghost use Rattle.simd_json_parts.specs.Document.{array, no_elements, no_members};
 ghost use Rattle.simd_json_parts.specs.Printed.{line, new_line, truth_text, text as text_of};
 
 use crate::write_error::WriteError;
@@ -44,9 +44,11 @@ pub(crate) struct Draft<const PRETTY: u8> {
 
 impl<const PRETTY: u8> Draft<PRETTY> {
     ghost use Rattle.simd_json_serde.specs.Written.{Part, elements_part, members_part, with_end};
-    ghost use Rattle.simd_json_serde.specs.Written.{IsBefore, HasWritten, IsTextOf, with_value};
-    ghost use Rattle.simd_json_serde.specs.Written.{Steps, Puts, Names, Sets, Keeps};
-    ghost use Rattle.simd_json_serde.specs.Written.{integer_of};
+    ghost use Rattle.simd_json_serde.specs.Written.{IsBefore, HasWritten, IsSound, IsTextOf};
+    ghost use Rattle.simd_json_serde.specs.Written.{Steps, Puts, Names, Sets, with_value};
+    ghost use Rattle.simd_json_serde.specs.Written.{integer_of, integers};
+    ghost use Rattle.simd_json_serde.specs.Written.{takes_value, takes_name, takes_scalar, IsFault};
+    ghost use Rattle.simd_json_serde.specs.Written.{ends_array, IsEndFault};
 
     pub(crate) fn new(alloc: Global) -> Draft<PRETTY>
         ensures { HasWritten result [] }
@@ -64,6 +66,7 @@ impl<const PRETTY: u8> Draft<PRETTY> {
             ++ line (PRETTY == 1) (length self.old.containers.items)) }
         ensures containers { self.new.containers ≡ self.old.containers }
         ensures place { self.new.place ≡ self.old.place }
+        ensures err { IfErr result (λ e. e ≡ WriteError.OutOfMemory) }
     {
         if PRETTY == 1 {
             append_line(&mut self.out, self.containers.len())?;
@@ -77,6 +80,7 @@ impl<const PRETTY: u8> Draft<PRETTY> {
             → IsBefore self.new parts []) }
         ensures live { OnOk result (self.old.place ≢ Place.Failed) }
         ensures failed { self.new.place ≡ Place.Failed }
+        ensures err { IfErr result (IsFault (takes_value self.old.place)) }
     {
         let place = self.place;
         self.place = Place::Failed;
@@ -93,7 +97,7 @@ impl<const PRETTY: u8> Draft<PRETTY> {
 
     // The place after a value, whose text is there.
     fn end_value(&mut self)
-        ensures { (d : Document) (parts : List Part)
+        ensures { (d : Document) (parts : List Part) → IsSound d
             → IsBefore self.old parts (text_of (PRETTY == 1) d (length parts))
             → HasWritten self.new (with_value d parts) }
     {
@@ -106,9 +110,10 @@ impl<const PRETTY: u8> Draft<PRETTY> {
 
     // A value without members but a string.
     fn put_text(&mut self, text: &str) -> Result<(), WriteError>
-        ensures put { OnOk result ((d : Document) → IsTextOf d text.now
+        ensures put { OnOk result ((d : Document) → IsSound d → IsTextOf d text.now
             → Puts d self.old self.new) }
         ensures failed { OnErr result (self.new.place ≡ Place.Failed) }
+        ensures err { IfErr result (IsFault (takes_value self.old.place)) }
     {
         self.put_lead()?;
         self.out.extend_from_slice(text.as_bytes())?;
@@ -119,6 +124,7 @@ impl<const PRETTY: u8> Draft<PRETTY> {
     fn put_string(&mut self, text: &str) -> Result<(), WriteError>
         ensures put { OnOk result (Puts (string text.now) self.old self.new) }
         ensures failed { OnErr result (self.new.place ≡ Place.Failed) }
+        ensures err { IfErr result (IsFault (takes_value self.old.place)) }
     {
         self.put_lead()?;
         append_quoted(&mut self.out, text)?;
@@ -129,6 +135,7 @@ impl<const PRETTY: u8> Draft<PRETTY> {
     pub(crate) fn put_name(&mut self, name: &str) -> Result<(), WriteError>
         ensures put { OnOk result (Names name.now self.old self.new) }
         ensures failed { OnErr result (self.new.place ≡ Place.Failed) }
+        ensures err { IfErr result (IsFault (takes_name self.old.place)) }
     {
         let place = self.place;
         self.place = Place::Failed;
@@ -149,6 +156,7 @@ impl<const PRETTY: u8> Draft<PRETTY> {
         ensures put { OnOk result
             (Steps (λ parts. elements_part no_elements ∷ parts) self.old self.new) }
         ensures failed { OnErr result (self.new.place ≡ Place.Failed) }
+        ensures err { IfErr result (IsFault (takes_value self.old.place)) }
     {
         self.put_lead()?;
         self.out.extend_from_slice(b"[")?;
@@ -161,6 +169,7 @@ impl<const PRETTY: u8> Draft<PRETTY> {
         ensures put { OnOk result
             (Steps (λ parts. members_part no_members ∷ parts) self.old self.new) }
         ensures failed { OnErr result (self.new.place ≡ Place.Failed) }
+        ensures err { IfErr result (IsFault (takes_value self.old.place)) }
     {
         self.put_lead()?;
         self.out.extend_from_slice(b"{")?;
@@ -172,6 +181,7 @@ impl<const PRETTY: u8> Draft<PRETTY> {
     pub(crate) fn end_array(&mut self) -> Result<(), WriteError>
         ensures put { OnOk result (Steps with_end self.old self.new) }
         ensures failed { OnErr result (self.new.place ≡ Place.Failed) }
+        ensures err { IfErr result (IsEndFault (ends_array self.old.place) self.old.containers.items) }
     {
         let place = self.place;
         self.place = Place::Failed;
@@ -191,6 +201,7 @@ impl<const PRETTY: u8> Draft<PRETTY> {
     pub(crate) fn end_object(&mut self) -> Result<(), WriteError>
         ensures put { OnOk result (Steps with_end self.old self.new) }
         ensures failed { OnErr result (self.new.place ≡ Place.Failed) }
+        ensures err { IfErr result (IsEndFault (takes_name self.old.place) self.old.containers.items) }
     {
         let place = self.place;
         self.place = Place::Failed;
@@ -209,9 +220,10 @@ impl<const PRETTY: u8> Draft<PRETTY> {
 
     // A value without members but a string; a key has the text between quotes.
     fn set_text(&mut self, text: &str, at_key: bool) -> Result<(), WriteError>
-        ensures put { OnOk result ((d : Document) → IsTextOf d text.now
+        ensures put { OnOk result ((d : Document) → IsSound d → IsTextOf d text.now
             → Sets at_key d text.now self.old self.new) }
         ensures failed { OnErr result (self.new.place ≡ Place.Failed) }
+        ensures err { IfErr result (IsFault (takes_scalar at_key self.old.place)) }
     {
         if at_key {
             self.put_name(text)
@@ -223,7 +235,7 @@ impl<const PRETTY: u8> Draft<PRETTY> {
     pub(crate) fn set_string(&mut self, text: &str, at_key: bool) -> Result<(), WriteError>
         ensures put { OnOk result (Sets at_key (string text.now) text.now self.old self.new) }
         ensures failed { OnErr result (self.new.place ≡ Place.Failed) }
-        ensures kept { Keeps self.old self.new }
+        ensures err { IfErr result (IsFault (takes_scalar at_key self.old.place)) }
     {
         if at_key {
             self.put_name(text)
@@ -234,14 +246,16 @@ impl<const PRETTY: u8> Draft<PRETTY> {
 
     pub(crate) fn put_null(&mut self) -> Result<(), WriteError>
         ensures put { OnOk result (Puts null self.old self.new) }
-        ensures kept { Keeps self.old self.new }
+        ensures failed { OnErr result (self.new.place ≡ Place.Failed) }
+        ensures err { IfErr result (IsFault (takes_value self.old.place)) }
     {
         self.put_text("null")
     }
 
     pub(crate) fn set_bool(&mut self, v: bool, at_key: bool) -> Result<(), WriteError>
         ensures put { OnOk result (Sets at_key (boolean v) (truth_text v) self.old self.new) }
-        ensures kept { Keeps self.old self.new }
+        ensures failed { OnErr result (self.new.place ≡ Place.Failed) }
+        ensures err { IfErr result (IsFault (takes_scalar at_key self.old.place)) }
     {
         self.set_text(if v { "true" } else { "false" }, at_key)
     }
@@ -249,7 +263,8 @@ impl<const PRETTY: u8> Draft<PRETTY> {
     pub(crate) fn set_i64(&mut self, v: i64, at_key: bool) -> Result<(), WriteError>
         ensures put { OnOk result (Sets at_key (integer_of v) (signed_decimal v)
             self.old self.new) }
-        ensures kept { Keeps self.old self.new }
+        ensures failed { OnErr result (self.new.place ≡ Place.Failed) }
+        ensures err { IfErr result (IsFault (takes_scalar at_key self.old.place)) }
     {
         self.set_text(itoa::Buffer::new().format(v), at_key)
     }
@@ -257,7 +272,8 @@ impl<const PRETTY: u8> Draft<PRETTY> {
     pub(crate) fn set_u64(&mut self, v: u64, at_key: bool) -> Result<(), WriteError>
         ensures put { OnOk result (Sets at_key (integer false v) (decimal_digits v)
             self.old self.new) }
-        ensures kept { Keeps self.old self.new }
+        ensures failed { OnErr result (self.new.place ≡ Place.Failed) }
+        ensures err { IfErr result (IsFault (takes_scalar at_key self.old.place)) }
     {
         self.set_text(itoa::Buffer::new().format(v), at_key)
     }
@@ -265,7 +281,8 @@ impl<const PRETTY: u8> Draft<PRETTY> {
     pub(crate) fn set_i128(&mut self, v: i128, at_key: bool) -> Result<(), WriteError>
         ensures put { OnOk result (Sets at_key (integer_of v) (signed_decimal v)
             self.old self.new) }
-        ensures kept { Keeps self.old self.new }
+        ensures failed { OnErr result (self.new.place ≡ Place.Failed) }
+        ensures err { IfErr result (IsFault (takes_scalar at_key self.old.place)) }
     {
         self.set_text(itoa::Buffer::new().format(v), at_key)
     }
@@ -273,9 +290,23 @@ impl<const PRETTY: u8> Draft<PRETTY> {
     pub(crate) fn set_u128(&mut self, v: u128, at_key: bool) -> Result<(), WriteError>
         ensures put { OnOk result (Sets at_key (integer false v) (decimal_digits v)
             self.old self.new) }
-        ensures kept { Keeps self.old self.new }
+        ensures failed { OnErr result (self.new.place ≡ Place.Failed) }
+        ensures err { IfErr result (IsFault (takes_scalar at_key self.old.place)) }
     {
         self.set_text(itoa::Buffer::new().format(v), at_key)
+    }
+
+    // An array of integers.
+    pub(crate) fn put_bytes(&mut self, bytes: &[u8]) -> Result<(), WriteError>
+        ensures put { OnOk result (Puts (array (integers bytes.now)) self.old self.new) }
+        ensures failed { OnErr result (self.new.place ≡ Place.Failed) }
+        ensures err { IfErr result (λ e. (e ≡ WriteError.OutOfMemory) ⊎ (e ≡ WriteError.Misplaced)) }
+    {
+        self.begin_array()?;
+        for byte in bytes {
+            self.set_u64(*byte as u64, false)?;
+        }
+        self.end_array()
     }
 
     // The literal is the shortest that reads as the float.
@@ -283,7 +314,9 @@ impl<const PRETTY: u8> Draft<PRETTY> {
         ensures put { OnOk result ((literal : List ℕ)
             × (parse_float binary32 literal ≡ Some v)
             × Sets at_key (decimal literal) literal self.old self.new) }
-        ensures kept { Keeps self.old self.new }
+        ensures failed { OnErr result (self.new.place ≡ Place.Failed) }
+        ensures err { IfErr result (λ e. IsFault (takes_scalar at_key self.old.place) e
+            ⊎ ((float_is_finite v ≡ false) × (e ≡ WriteError.NotFinite))) }
     {
         if !v.is_finite() {
             self.place = Place::Failed;
@@ -296,7 +329,9 @@ impl<const PRETTY: u8> Draft<PRETTY> {
         ensures put { OnOk result ((literal : List ℕ)
             × (parse_float binary64 literal ≡ Some v)
             × Sets at_key (decimal literal) literal self.old self.new) }
-        ensures kept { Keeps self.old self.new }
+        ensures failed { OnErr result (self.new.place ≡ Place.Failed) }
+        ensures err { IfErr result (λ e. IsFault (takes_scalar at_key self.old.place) e
+            ⊎ ((float_is_finite v ≡ false) × (e ≡ WriteError.NotFinite))) }
     {
         if !v.is_finite() {
             self.place = Place::Failed;

@@ -1,5 +1,6 @@
 //! Why nothing was read.
 ghost use Rattle.std.specs.Prelude.{◌≡◌, ◌⊎◌, ◌↔◌, IsTrue};
+ghost use Rattle.simd_json_serde.specs.Words.{words as words_of, expected_words as expected_of};
 
 use crate::path::append_path;
 use simd_json::{Node, ValueType};
@@ -91,6 +92,10 @@ pub struct Mismatch {
 }
 
 impl Mismatch {
+    ghost use Rattle.std.specs.Prelude.{Some};
+    ghost use Rattle.std.specs.Fmt.{DisplaysOnOk};
+    ghost use Rattle.simd_json_serde.specs.Messages.{path_of, name_of, reason_text};
+
     // Of the value around a node, with the name that the reader kept last, if the fault has one.
     // The path is built only now: nothing is kept for it during a read.
     #[cold]
@@ -143,39 +148,26 @@ impl Mismatch {
     /// The value's JSON Pointer (RFC 6901), from the value that was read on. For an unknown or a
     /// duplicate field, and for a key that is no value of its type, it ends with the key; for a
     /// missing field it leads to the object.
-    pub fn path(&self) -> &str {
+    pub fn path(&self) -> &str
+        ensures { result.now ≡ path_of self.now }
+    {
         self.path.as_str()
     }
 
     /// The name of a field that is missing or there twice, or the message of
     /// [`MismatchKind::Custom`]: of both the first 32 bytes. Else it is empty.
-    pub fn name(&self) -> &str {
+    pub fn name(&self) -> &str
+        ensures { result.now ≡ name_of self.now }
+    {
         self.name.as_str()
     }
-}
 
-// The kind in words. Integers are one kind here, since those of the tape differ by their size.
-fn words(kind: ValueType) -> &'static str {
-    match kind {
-        ValueType::I64 | ValueType::U64 | ValueType::I128 | ValueType::U128 => "an integer",
-        _ => kind.words(),
-    }
-}
-
-// The same of the kind that was expected: a float may be any number.
-fn expected_words(kind: ValueType) -> &'static str {
-    match kind {
-        ValueType::Decimal => "a number",
-        _ => words(kind),
-    }
-}
-
-impl fmt::Display for Mismatch {
-    fn fmt<W: fmt::Write>(&self, f: &mut fmt::Formatter<W>) -> fmt::Result {
-        let (path, name) = (self.path(), self.name());
-        if !path.is_empty() {
-            write!(f, "{path}: ")?;
-        }
+    // Without the path.
+    fn put_reason<W: fmt::Write>(&self, f: &mut fmt::Formatter<W>) -> fmt::Result
+        ensures { DisplaysOnOk W.write_str_gives f.old result
+            (Some (reason_text self.now.fault.kind (name_of self.now))) f.new }
+    {
+        let name = self.name();
         match self.fault.kind {
             MismatchKind::InvalidType { expected, got } => {
                 let (expected, got) = (expected_words(expected), words(got));
@@ -191,6 +183,41 @@ impl fmt::Display for Mismatch {
             MismatchKind::Custom => f.write_str(name),
             MismatchKind::OutOfMemory => f.write_str("out of memory"),
         }
+    }
+}
+
+// The kind in words. Integers are one kind here, since those of the tape differ by their size.
+fn words(kind: ValueType) -> &'static str
+    ensures { result.now ≡ words_of kind }
+{
+    match kind {
+        ValueType::I64 | ValueType::U64 | ValueType::I128 | ValueType::U128 => "an integer",
+        _ => kind.words(),
+    }
+}
+
+// The same of the kind that was expected: a float may be any number.
+fn expected_words(kind: ValueType) -> &'static str
+    ensures { result.now ≡ expected_of kind }
+{
+    match kind {
+        ValueType::Decimal => "a number",
+        _ => words(kind),
+    }
+}
+
+impl fmt::Display for Mismatch {
+    ghost use Rattle.std.specs.Prelude.{Some};
+    ghost use Rattle.simd_json_serde.specs.Messages.{mismatch_text};
+
+    ghost output = { λ m. Some (mismatch_text m) };
+
+    fn fmt<W: fmt::Write>(&self, f: &mut fmt::Formatter<W>) -> fmt::Result {
+        let path = self.path();
+        if !path.is_empty() {
+            write!(f, "{path}: ")?;
+        }
+        self.put_reason(f)
     }
 }
 

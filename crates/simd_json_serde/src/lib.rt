@@ -69,16 +69,24 @@
 //! A value and a [`Mismatch`] are returned only if the input is a document of RFC 8259 within the
 //! limits, and else the parse's first error (`IsRead`). Each step of [`NodeReader`] returns what
 //! the node that it takes says, and `skip` passes one value (`Reads`, `Picks`); a scalar is read
-//! exactly where the accessor of `simd_json` has one. Not proved, but tested beside `serde_json`:
-//! that a derived type is read as the document says, since derives have no contract; the words and
-//! the path of a mismatch.
+//! exactly where the accessor of `simd_json` has one. A mismatch prints its path and the words of
+//! its kind.
 //!
-//! Whatever a type sends, a text that is written is that of a document (`IsPrinted`).
+//! A text that is written is that of the document to which the events lead that the value sends, in
+//! their order (`IsPrinted`): of a number, a truth value, a string, `()` and `None` the one literal
+//! (of a float one that reads as it), of a `Vec`, a tuple or a map the texts of its members. A step
+//! fails for memory, out of place, or for a key or a float without text, and for nothing else
+//! (`specs/WriteFaults.antt`).
+//!
+//! Not proved, but tested beside `serde_json`: that a derived type is read as the document says, and
+//! what it sends, since derives have no contract; the path of a mismatch; that [`read`] gives up no
+//! capacity of its [`Texts`], which are lent to the type.
 #![tactic(auto)]
 
 mod draft;
 mod error;
 mod format;
+mod log;
 mod node_reader;
 mod numbers;
 mod path;

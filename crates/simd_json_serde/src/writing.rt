@@ -1,7 +1,7 @@
 //! Writing: the text of a value.
 ghost use Rattle.std.specs.Prelude.{ℕ, false, true, take, string_bytes, IfOk, OnOk, OnErr};
 ghost use Rattle.std.specs.Io.KnownBytes.{Appends};
-ghost use Rattle.simd_json_serde.specs.Written.{IsPrinted};
+ghost use Rattle.simd_json_serde.specs.Sent.{IsPrinted};
 ghost use Rattle.simd_json_serde.specs.WrittenOut.{WritesText};
 
 use crate::text_writer::TextWriter;
@@ -17,7 +17,7 @@ use std::io::Write;
 /// Returns an error if a float is not finite, a key is no string, number or truth value, a
 /// flattened value is no object, or an allocation fails; or the type's own error.
 pub fn to_vec<T: Serialize>(alloc: Global, value: &T) -> Result<Vec<u8>, WriteError>
-    ensures { IfOk result (λ text. ∥ IsPrinted false text.items ∥₁) }
+    ensures { IfOk result (λ text. ∥ IsPrinted false (T.writes value.now) text.items ∥₁) }
 {
     let mut writer = TextWriter::<0>::new(alloc);
     value.serialize(&mut writer)?;
@@ -26,7 +26,7 @@ pub fn to_vec<T: Serialize>(alloc: Global, value: &T) -> Result<Vec<u8>, WriteEr
 
 /// The pretty text of a value, as UTF-8 bytes. Returns the errors of [`to_vec`].
 pub fn to_vec_pretty<T: Serialize>(alloc: Global, value: &T) -> Result<Vec<u8>, WriteError>
-    ensures { IfOk result (λ text. ∥ IsPrinted true text.items ∥₁) }
+    ensures { IfOk result (λ text. ∥ IsPrinted true (T.writes value.now) text.items ∥₁) }
 {
     let mut writer = TextWriter::<1>::new(alloc);
     value.serialize(&mut writer)?;
@@ -51,14 +51,16 @@ pub fn to_vec_pretty<T: Serialize>(alloc: Global, value: &T) -> Result<Vec<u8>, 
 /// }
 /// ```
 pub fn to_string<T: Serialize>(alloc: Global, value: &T) -> Result<String, WriteError>
-    ensures { IfOk result (λ text. ∥ IsPrinted false (string_bytes text) ∥₁) }
+    ensures { IfOk result
+        (λ text. ∥ IsPrinted false (T.writes value.now) (string_bytes text) ∥₁) }
 {
     Ok(unsafe { String::from_utf8_unchecked(to_vec(alloc, value)?) })
 }
 
 /// The pretty text of a value. Returns the errors of [`to_vec`].
 pub fn to_string_pretty<T: Serialize>(alloc: Global, value: &T) -> Result<String, WriteError>
-    ensures { IfOk result (λ text. ∥ IsPrinted true (string_bytes text) ∥₁) }
+    ensures { IfOk result
+        (λ text. ∥ IsPrinted true (T.writes value.now) (string_bytes text) ∥₁) }
 {
     Ok(unsafe { String::from_utf8_unchecked(to_vec_pretty(alloc, value)?) })
 }
@@ -72,7 +74,8 @@ pub fn to_writer<W: Write, T: Serialize>(
     writer: &mut W,
     value: &T,
 ) -> Result<(), WriteError>
-    ensures { ∥ WritesText false result (W.contents writer.old) (W.contents writer.new) ∥₁ }
+    ensures { ∥ WritesText (IsPrinted false (T.writes value.now)) result
+        (W.contents writer.old) (W.contents writer.new) ∥₁ }
 {
     let text = to_vec(alloc, value)?;
     write_all(writer, &text).map_err(WriteError::Io)
@@ -84,7 +87,8 @@ pub fn to_writer_pretty<W: Write, T: Serialize>(
     writer: &mut W,
     value: &T,
 ) -> Result<(), WriteError>
-    ensures { ∥ WritesText true result (W.contents writer.old) (W.contents writer.new) ∥₁ }
+    ensures { ∥ WritesText (IsPrinted true (T.writes value.now)) result
+        (W.contents writer.old) (W.contents writer.new) ∥₁ }
 {
     let text = to_vec_pretty(alloc, value)?;
     write_all(writer, &text).map_err(WriteError::Io)

@@ -23,6 +23,6 @@ returns-clause-put g c =
       containers = c.put_line.new.self.containers;
       place = Member;
     } in
-    name-put old c.match-place.self c.put_line.new.self new c.append_quoted.new.out.items c.args.name.now led
+    name-put old c.match-place.self c.put_line.new.self new c.append_quoted.new.out.items c.args.name.now c.utf8.name led
     c.in_ok-put_line.ensures.line c.put_line.ensures.containers c.in_ok-append_quoted.ensures.appended
     (c.in_ok-extend_from_slice.ensures.items ∙ ap (λ xs. c.append_quoted.new.out.items ++ xs) colon) refl refl

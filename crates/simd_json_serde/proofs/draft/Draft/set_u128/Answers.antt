@@ -1,16 +1,9 @@
-use Rattle.std.proofs.Common.{refl, sym, arith, false}
+use Rattle.std.proofs.Common.{refl, arith, false}
 use Rattle.std.specs.Fmt.{decimal}
 use Rattle.simd_json_parts.specs.Document.{integer}
-use Rattle.simd_json_serde.proofs.Sound.{text-set, set-kept}
+use Rattle.simd_json_serde.proofs.Sound.{text-set}
 use Rattle.simd_json_serde.proofs.draft.Draft.set_u128.Goals as goal
 
 pub returns-clause-put : goal.returns-clause-put
-returns-clause-put g c = text-set c.set_text.result c.args.at_key (integer false c.args.v) (decimal c.args.v) _ _ _ (λ p n. refl)
-    c.format.ensures.text c.set_text.ensures.put
-
-pub returns-clause-kept : goal.returns-clause-kept
-returns-clause-kept g c = set-kept c.set_text.result c.args.at_key (integer false c.args.v) c.format.result.now _ _
-    (tt, omega (arith, c.ranges.v.fits)) c.format.utf8
-    (text-set c.set_text.result c.args.at_key (integer false c.args.v) _ _ _ _ (λ p n. sym c.format.ensures.text) refl
-    c.set_text.ensures.put)
-    c.set_text.ensures.failed
+returns-clause-put g c = text-set c.set_text.result c.args.at_key (integer false c.args.v) (decimal c.args.v) _ _ _
+    (tt, omega (arith, c.ranges.v.fits)) (λ p n. refl) c.format.ensures.text c.set_text.ensures.put
