@@ -67,6 +67,7 @@ fi
 
 # What each program of examples/log prints of log.jsonl, and its status.
 cd "$at/examples/log"
+# shellcheck disable=SC2016
 log='200 /index.html
 404 /café
 log.jsonl:3:59: expected a value, found `}`
