@@ -11,14 +11,11 @@ trap 'rm -rf "$room"' EXIT
 cat > "$room/exceptions" << 'END'
 jsonl arguments                       no contract says which words the system passes
 jsonl Source::new                     no contract says which bytes a file has
-jsonl Source::fault                   no contract says why the system can't read a file
 jcheck Options::depth                 options are tested (tests/statuses.sh)
 jcheck Options::has_lines             as above
 jcheck Options::color                 as above
 jcheck Options::files                 as above
 jcheck asked                          as above
-jpick Options::wanted                 as above
-jpick Options::files                  as above
 jpick asked                           as above
 log_report Options::wanted            as above
 log_report Options::files             as above

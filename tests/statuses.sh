@@ -254,6 +254,28 @@ given "$filtered" --where-not /k=1 --exists /k /k
 wanted 'lines where a value is not 1' 0 '1.0\n0\n0\n[1]\n' ''
 given "$filtered" --where /k/0=1 ''
 wanted 'lines where an element is 1' 0 '{"k":[1]}\n' ''
+rows='{"k":"x\\ty","l":[1]}\n{"k":"\\""}\n[1,]\n'
+named='-:3:4: expected a value, found `]`\n'
+for option in -r --raw; do
+    given "$rows" "$option" /k /l
+    wanted "rows by $option" 1 'x\ty\t[1]\n"\t\n' "$named"
+done
+given "$rows" --tsv /k /l
+wanted 'rows by --tsv' 1 'x\\ty\t[1]\n"\t\n' "$named"
+given "$rows" --csv /k /l
+wanted 'rows by --csv' 1 '"x\ty","[1]"\n"""",\n' "$named"
+given "$rows" --json /k /l
+wanted 'rows by --json' 1 '["x\\ty",[1]]\n["\\"",null]\n' "$named"
+given "$rows" --all /k /l
+wanted 'rows by --all' 1 '"x\\ty"\t[1]\n' "$named"
+given "$rows" --quiet /l
+wanted 'rows by --quiet' 1 '[1]\n\n' ''
+for option in --tsv --csv; do
+    given "$rows" "$option" --json /k
+    said "jpick $option --json" 2 --json
+done
+given "$rows" --tsv --csv /k
+said 'jpick --tsv --csv' 2 --csv
 for pointer in a '/~' '/a/~2'; do
     given '1' "$pointer"
     wanted "the pointer '$pointer'" 2 '' "jpick: \`$pointer\` is not a JSON Pointer\n"
@@ -295,6 +317,15 @@ wanted 'a closed pipe, fields' 0 '12345\n' ''
 { echo '[1,]'; cat "$room/many"; } > "$room/rejected"
 picked "$room/rejected"
 wanted 'a closed pipe, fields, and a rejected line' 1 '12345\n' '-:1:4: expected a value, found `]`\n'
+# The files after it are not read.
+{ "$program" /0 -- "$room/many" "$room/missing" 2> "$room/err"; echo $? > "$room/status"; } | head -n 1 > "$room/out"
+status=$(cat "$room/status")
+wanted 'a closed pipe, fields of more files' 0 '12345\n' ''
+{ "$program" /0 -- "$room/missing" "$room/many" "$room" 2> "$room/err"; echo $? > "$room/status"; } | head -n 1 > "$room/out"
+status=$(cat "$room/status")
+sed "s|$room/||; s|: No such.*||" "$room/err" > "$room/short"
+mv "$room/short" "$room/err"
+wanted 'a closed pipe, fields after a file that is not there' 3 '12345\n' 'jpick: missing\n'
 
 # Of jcheck an input that can't be read is named, and an output that can't be written.
 program=${4:-$(dirname "$0")/../crates/jcheck_main/out/jcheck_main}

@@ -1,5 +1,4 @@
 mod Characters
-mod Checked
 mod Puts
 mod Shown
 mod Streams

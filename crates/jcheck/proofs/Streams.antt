@@ -8,7 +8,7 @@ use Rattle.std.proofs.lemmas.Bool.{false≢true}
 use Rattle.std.proofs.lemmas.List.{drop-drop, take-append-drop}
 use Rattle.std.specs.Io.KnownBytes.{Appends}
 use Rattle.std.specs.List.{list_all}
-use Rattle.jcheck.proofs.Checked.{cut-at}
+use Rattle.jsonl.proofs.Turns.{cut-at}
 use Rattle.jcheck.specs.Reports.{is_clean_line, line_text, lines_text}
 use Rattle.jcheck.specs.Failures.{IsShortOfMemory, is_of_output}
 use Rattle.jcheck.specs.Streams.{AreDone, EndsLines, Stops, Takes, bytes_of}

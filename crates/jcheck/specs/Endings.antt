@@ -1,9 +1,10 @@
 -- How the program ends, and its status.
-use Rattle.std.specs.Prelude.{◌≡◌, ℕ, List, [], ◌∷◌, Bool, true, false, if◌then◌else◌, Result, Ok, Err}
+use Rattle.std.specs.Prelude.{ℕ, List, Bool, true, false, if◌then◌else◌, Result, Ok, Err}
 use Rattle.jcheck.specs.Failures.{has_closed}
 use Rattle.jcheck.specs.declared.failure.Failure.{Failure}
 use Rattle.jcheck.specs.declared.report.Ended.{Ended}
 use Rattle.jcheck.specs.declared.report.Ended.TheVariants.{Clean, Rejected, Failed}
+use Rattle.jsonl.specs.Turns.{HasRunEach}
 
 abbrev pub ended_status : Ended → ℕ
 ended_status Clean = 0
@@ -29,29 +30,11 @@ ended_of (Ok true) = Clean
 ended_of (Ok false) = Rejected
 ended_of (Err e) = if has_closed e then Rejected else Failed
 
--- after more checks
-abbrev pub ended_after : Ended → List (Result Bool Failure) → Ended
-ended_after ended [] = ended
-ended_after ended (r ∷ rs) = ended_after (worse ended (ended_of r)) rs
+-- after one more
+abbrev pub ended_after : Ended → Result Bool Failure → Ended
+ended_after ended r = worse ended (ended_of r)
 
--- ---- checks of files, each of which changes a state
-
-abbrev pub OnClosed : Bool → Type 0 → Type 0 → Type 0
-OnClosed true P Q = P
-OnClosed false P Q = Q
-
--- the files were checked in turn, and this was returned: up to the first after which nobody reads the output any more
-abbrev pub Checks : {S X : Type 0} → (S → X → Result Bool Failure → S → Type 0) → S → List X → List (Result Bool Failure) → S → Type 0
-Checks step s [] [] last = s ≡ last
-Checks step s [] (r ∷ rs) last = ⊥
-Checks step s (x ∷ xs) [] last = ⊥
-Checks {S} step s (x ∷ xs) (r ∷ rs) last =
-    (t : S) × step s x r t × OnClosed (is_closed r) ((rs ≡ []) × (t ≡ last)) (Checks step t xs rs last)
-
--- and the program ends as the worst of them
-pub record HasChecked {S X : Type 0} (step : S → X → Result Bool Failure → S → Type 0) (s : S) (files : List X) (ended : Ended)
-    : Type 0 where
-  pub results : List (Result Bool Failure)
-  pub last : S
-  pub checks : Checks step s files results last
-  pub worst : ended ≡ ended_after Clean results
+-- The files were checked in turn, up to the first after which nobody reads the output any more, and the program ends as the worst of
+-- them.
+abbrev pub HasChecked : {S X : Type 0} → (S → X → Result Bool Failure → S → Type 0) → S → List X → Ended → Type 0
+HasChecked step s files ended = HasRunEach step is_closed ended_after Clean s files ended

@@ -1,3 +1,5 @@
+pub mod Asked
+pub mod Files
 pub mod Picked
 pub mod Rows
 pub mod Runs

@@ -2,7 +2,7 @@
 use Rattle.std.specs.Prelude.{◌≡◌, ◌↔◌, ◌⊎◌, ◌++◌, ℕ, List, [], ◌∷◌, Bool, true, false, Option}
 use Rattle.std.specs.Prelude.{OnOk, IfErr, IsErrAnd, Result, Ok, Err, MatchResult}
 use Rattle.std.specs.Io.KnownBytes.{Appends, Consumes, IsAtEnd}
-use Rattle.jsonl.specs.Failures.{Begins, IsOutputFault, is_write}
+use Rattle.jsonl.specs.Failures.{Begins, SaysClosed, is_write, output_fault}
 use Rattle.jsonl.specs.Lines.{folded}
 use Rattle.jsonl.specs.Ports.{Watched}
 use Rattle.jsonl.specs.declared.failure.Failure.{Failure}
@@ -58,6 +58,7 @@ pub record Picks {R W E : Type 0} (remaining : R → Option (List ℕ)) (written
       × SaysTaken w file begun.input (remaining reads.inner) outs.failed failure)
   pub read : (result ≡ Err Read) ↔ (reads.failed ≡ true)
   pub write : IsErrAnd result (λ failure. is_write failure ≡ true) ↔ (outs.failed ≡ true)
+  pub closed : IfErr result (SaysClosed outs.closed)
   pub name : (result ≡ Err Name) ↔ (rejects.failed ≡ true)
 
 -- ---- what private clauses cite
@@ -65,7 +66,7 @@ pub record Picks {R W E : Type 0} (remaining : R → Option (List ℕ)) (written
 -- of a call on the writer of rows: P, and it has not failed; or it has, and Q
 abbrev pub EndsRows : {T : Type 0} → Bool → Watched T → Watched T → Type 0 → Type 0 → Result Unit Failure → Type 0
 EndsRows taken old new P Q result = old.failed ≡ false
-    → MatchResult result (λ _. (new.failed ≡ false) × P) (λ failure. (new.failed ≡ true) × IsOutputFault taken failure × Q)
+    → MatchResult result (λ _. (new.failed ≡ false) × P) (λ failure. (new.failed ≡ true) × (failure ≡ output_fault new.closed taken) × Q)
 
 -- the row of a line with this value follows, if it is picked
 pub record PicksValue {A : Type 0} (old new : Picker A) (d : Document) : Type 0 where

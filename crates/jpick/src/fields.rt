@@ -64,7 +64,7 @@ fn is_value(value: Option<Value<'_, '_>>, other: Value<'_, '_>) -> bool
 }
 
 /// How the values of a line are printed.
-#[derive(Clone, Copy)]
+#[derive(Clone, Copy, Debug, PartialEq, Eq)]
 pub enum Layout {
     /// Compact texts with tabs between them.
     Tabs,

@@ -1,6 +1,7 @@
 //! The values at JSON Pointers in each line of JSON Lines.
 //!
 //! - [`run`]: writes a row of them for each line of a reader, and names rejected lines.
+//! - [`pick_each`]: a run for each file, and the greatest status.
 //! - [`asked`]: what the program's arguments ask for.
 //!
 //! ```
@@ -31,10 +32,12 @@
 #![tactic(auto)]
 
 mod fields;
+mod files;
 mod lines;
 mod options;
 mod runs;
 
 pub use fields::{Filter, Layout, Wanted};
+pub use files::pick_each;
 pub use options::{Options, Unasked, asked};
 pub use runs::run;

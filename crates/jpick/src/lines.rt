@@ -143,10 +143,12 @@ impl<'p, A: Allocator + Copy> Picker<'p, A> {
     {
         let mut text = Text::<Channel<W>, 64>::new(out);
         text.put(self.rows.as_slice());
-        if let Err(e) = text.finish() {
-            return Err(Failure::of_output(&e, self.all_taken));
+        match text.finish() {
+            Ok(()) => {
+                self.rows.clear();
+                Ok(())
+            }
+            Err(_) => Err(Failure::of_output(out.closed(), self.all_taken)),
         }
-        self.rows.clear();
-        Ok(())
     }
 }

@@ -1,5 +1,7 @@
 //! What the program's arguments ask for.
-ghost use Rattle.std.specs.Prelude.{◌≢◌, []};
+ghost use Rattle.std.specs.Prelude.{◌≡◌, ◌≢◌, [], map, IfOk};
+ghost use Rattle.clap.specs.Matches.{found_of};
+ghost use Rattle.jpick.specs.Asked.{HasOptions, files_of, flags_of, is_given, layout_of, texts_of};
 
 use crate::fields::{Filter, Layout, Wanted};
 use bumpalo::Bump;
@@ -42,32 +44,126 @@ const LIMIT_HELP: &str = "How many bytes a line may have [default: 65536]";
 pub struct Options<'a> {
     pointers: Vec<&'a str>,
     filters: Vec<Filter<'a>>,
-    layout: Layout,
-    is_raw: bool,
-    needs_all: bool,
-    is_quiet: bool,
+    flags: Flags,
     longest: u32,
     files: Vec<&'a str>,
 }
 
 impl<'a> Options<'a> {
+    // What was found in the words.
+    fn of(
+        alloc: Global,
+        arena: &'a Bump,
+        matches: &ArgMatches<'a>,
+    ) -> Result<Options<'a>, Unasked<'a>>
+        ensures { IfOk result (HasOptions (found_of matches.now)) }
+    {
+        let mut pointers = Vec::new(alloc);
+        for pointer in texts(matches, "pointer") {
+            pointer_named(*pointer)?;
+        }
+        pointers.extend_from_slice(texts(matches, "pointer"))?;
+        Ok(Options {
+            pointers,
+            filters: filters(alloc, arena, matches)?,
+            flags: Flags::of(matches),
+            longest: matches.get_one::<u32>("limit").unwrap_or(LONGEST),
+            files: files(alloc, matches)?,
+        })
+    }
+
     /// What is picked of each line.
-    pub fn wanted(&self) -> Wanted<'_> {
+    pub fn wanted(&self) -> Wanted<'_>
+        ensures pointers { result.pointers.now ≡ self.now.pointers.items }
+        ensures filters { result.filters.now ≡ self.now.filters.items }
+        ensures layout { result.layout ≡ self.now.flags.layout }
+        ensures is_raw { result.is_raw ≡ self.now.flags.is_raw }
+        ensures needs_all { result.needs_all ≡ self.now.flags.needs_all }
+        ensures is_quiet { result.is_quiet ≡ self.now.flags.is_quiet }
+        ensures longest { result.longest ≡ self.now.longest }
+    {
         Wanted {
             pointers: self.pointers.as_slice(),
             filters: self.filters.as_slice(),
-            layout: self.layout,
-            is_raw: self.is_raw,
-            needs_all: self.needs_all,
-            is_quiet: self.is_quiet,
+            layout: self.flags.layout,
+            is_raw: self.flags.is_raw,
+            needs_all: self.flags.needs_all,
+            is_quiet: self.flags.is_quiet,
             longest: self.longest as usize,
         }
     }
 
     /// The names of the files, of which there is at least one.
-    pub fn files(&self) -> &[&'a str] {
+    pub fn files(&self) -> &[&'a str]
+        ensures { result.now ≡ self.now.files.items }
+    {
         self.files.as_slice()
     }
+}
+
+// What the options without a value ask for.
+#[derive(Clone, Copy)]
+struct Flags {
+    layout: Layout,
+    is_raw: bool,
+    needs_all: bool,
+    is_quiet: bool,
+}
+
+impl Flags {
+    fn of(matches: &ArgMatches<'_>) -> Flags
+        ensures { result ≡ flags_of (found_of matches.now) }
+    {
+        Flags {
+            layout: layout(
+                is_given(matches, "tsv"),
+                is_given(matches, "csv"),
+                is_given(matches, "json"),
+            ),
+            is_raw: is_given(matches, "raw"),
+            needs_all: is_given(matches, "all"),
+            is_quiet: is_given(matches, "quiet"),
+        }
+    }
+}
+
+// Whether the option without a value is among the words.
+fn is_given(matches: &ArgMatches<'_>, name: &str) -> bool
+    ensures { result ≡ is_given (found_of matches.now) name.now }
+{
+    matches.get_str(name) == Some("true")
+}
+
+// How rows are printed, by --tsv, --csv and --json, of which at most one may be given.
+fn layout(tsv: bool, csv: bool, json: bool) -> Layout
+    ensures { result ≡ layout_of tsv csv json }
+{
+    match (tsv, csv, json) {
+        (true, _, _) => Layout::Tsv,
+        (_, true, _) => Layout::Csv,
+        (_, _, true) => Layout::Json,
+        _ => Layout::Tabs,
+    }
+}
+
+// The values of an argument, in order.
+fn texts<'a, 'm>(matches: &'m ArgMatches<'a>, name: &str) -> &'m [&'a str]
+    ensures { map (λ text. text.now) result.now ≡ texts_of (found_of matches.now) name.now }
+{
+    matches.get_strs(name).unwrap_or_default()
+}
+
+// The names of the files, or that of standard input where there are none.
+fn files<'a>(alloc: Global, matches: &ArgMatches<'a>) -> Result<Vec<&'a str>, AllocError>
+    ensures { IfOk result (λ files.
+        map (λ name. name.now) files.items ≡ files_of (found_of matches.now)) }
+{
+    let mut files = Vec::new(alloc);
+    files.extend_from_slice(texts(matches, "file"))?;
+    if files.is_empty() {
+        files.push(STANDARD_INPUT)?;
+    }
+    Ok(files)
 }
 
 /// Why there are no options.
@@ -109,37 +205,7 @@ pub fn asked<'a>(
     words: &'a [String],
 ) -> Result<Options<'a>, Unasked<'a>> {
     let matches = command(alloc)?.try_get_matches_from(words)?;
-    let mut pointers = Vec::new(alloc);
-    for pointer in matches.get_strs("pointer").unwrap_or_default() {
-        pointers.push(pointer_named(*pointer)?)?;
-    }
-    let mut files = Vec::new(alloc);
-    match matches.get_strs("file") {
-        Some(names) => files.extend_from_slice(names)?,
-        None => files.push(STANDARD_INPUT)?,
-    }
-    Ok(Options {
-        pointers,
-        filters: filters(alloc, arena, &matches)?,
-        layout: layout(&matches),
-        is_raw: matches.get_flag("raw"),
-        needs_all: matches.get_flag("all"),
-        is_quiet: matches.get_flag("quiet"),
-        longest: matches.get_one::<u32>("limit").unwrap_or(LONGEST),
-        files,
-    })
-}
-
-fn layout(matches: &ArgMatches<'_>) -> Layout {
-    if matches.get_flag("tsv") {
-        Layout::Tsv
-    } else if matches.get_flag("csv") {
-        Layout::Csv
-    } else if matches.get_flag("json") {
-        Layout::Json
-    } else {
-        Layout::Tabs
-    }
+    Options::of(alloc, arena, &matches)
 }
 
 fn filters<'a>(
@@ -148,15 +214,15 @@ fn filters<'a>(
     matches: &ArgMatches<'a>,
 ) -> Result<Vec<Filter<'a>>, Unasked<'a>> {
     let mut filters = Vec::new(alloc);
-    for condition in matches.get_strs("where").unwrap_or_default() {
+    for condition in texts(matches, "where") {
         let (pointer, value) = condition_named(alloc, arena, *condition)?;
         filters.push(Filter::Is(pointer, value))?;
     }
-    for condition in matches.get_strs("where-not").unwrap_or_default() {
+    for condition in texts(matches, "where-not") {
         let (pointer, value) = condition_named(alloc, arena, *condition)?;
         filters.push(Filter::IsNot(pointer, value))?;
     }
-    for pointer in matches.get_strs("exists").unwrap_or_default() {
+    for pointer in texts(matches, "exists") {
         filters.push(Filter::Exists(pointer_named(*pointer)?))?;
     }
     Ok(filters)

@@ -4,7 +4,7 @@
 #![tactic(auto)]
 
 use bumpalo::Bump;
-use jpick::{Options, Unasked, Wanted, asked, run};
+use jpick::{Options, Unasked, Wanted, asked, pick_each, run};
 use jsonl::{Channel, Failure, Source, arguments, ending, help_status};
 use std::io;
 use std::process::ExitCode;
@@ -44,42 +44,21 @@ fn program(rt: &HostRuntime, words: &[String]) -> u8 {
     }
 }
 
-// The greatest status of all files. A file that can't be read does not keep the others from being
-// read, but a closed output does.
 fn pick_files(rt: &HostRuntime, options: &Options<'_>) -> u8 {
     let wanted = options.wanted();
-    let mut greatest = 0;
-    for file in options.files() {
-        let picked = pick_file(rt, &wanted, *file);
-        greatest = greatest.max(picked.status);
-        if picked.is_closed {
-            return greatest;
-        }
-    }
-    greatest
+    pick_each(|file| pick_file(rt, &wanted, file), options.files())
 }
 
-// How a file ended.
-#[derive(Clone, Copy)]
-struct Outcome {
-    status: u8,
-    // whether nobody reads the output any more
-    is_closed: bool,
-}
-
-fn pick_file(rt: &HostRuntime, wanted: &Wanted<'_>, file: &str) -> Outcome {
+// Picks of a file, and prints on standard error why that ended early.
+fn pick_file(rt: &HostRuntime, wanted: &Wanted<'_>, file: &str) -> Result<bool, Failure> {
     let mut reader = Channel::new(Source::new(rt, rt.reader(), file));
     let (mut out, mut err) = (Channel::new(io::writer(rt)), Channel::new(rt.stderr()));
     let ended = run(rt.alloc(), wanted, file, &mut reader, &mut out, &mut err);
     if let Some((file, e)) = reader.into_inner().fault() {
         let _ = eprintln!(rt; "jpick: {file}: {e}");
     }
-    let (status, line) = ending(&ended);
-    if let Some(line) = line {
+    if let Some(line) = ending(&ended).1 {
         let _ = eprintln!(rt; "jpick: {line}");
     }
-    Outcome {
-        status,
-        is_closed: matches!(ended, Err(Failure::Closed(_))),
-    }
+    ended
 }

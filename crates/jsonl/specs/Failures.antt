@@ -27,10 +27,16 @@ is_write Write = true
 is_write (Closed taken) = true
 is_write _ = false
 
--- what a call ends in that fails to write it, by whether no line was rejected so far
-abbrev pub IsOutputFault : Bool → Failure → Type 0
-IsOutputFault taken (Closed t) = t ≡ taken
-IsOutputFault taken failure = failure ≡ Write
+-- what a call ends in that fails to write it, by whether its reader has closed it, and whether no line was rejected so far
+abbrev pub output_fault : Bool → Bool → Failure
+output_fault true taken = Closed taken
+output_fault false taken = Write
+
+-- of a writer whose reader has closed it or not: a failure to write says which
+abbrev pub SaysClosed : Bool → Failure → Type 0
+SaysClosed closed (Closed taken) = closed ≡ true
+SaysClosed closed Write = closed ≡ false
+SaysClosed closed _ = Unit
 
 -- what a call on a port that had not failed ends in, if its failures come from that port or from want of memory: of a reader
 abbrev pub read_fault : Bool → Failure

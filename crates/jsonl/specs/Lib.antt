@@ -3,3 +3,4 @@ pub mod Lines
 pub mod Ports
 pub mod Sources
 pub mod Statuses
+pub mod Turns

@@ -10,6 +10,10 @@ abbrev pub is_pipe : ErrorKind → Bool
 is_pipe BrokenPipe = true
 is_pipe _ = false
 
+abbrev pub has_pipe_error : {T : Type 0} → Result T Error → Bool
+has_pipe_error (Ok x) = false
+has_pipe_error (Err e) = is_pipe (error_kind e)
+
 -- after it printed its help
 abbrev pub help_status : Result Unit Error → ℕ
 help_status (Ok u) = 0

@@ -1,11 +1,12 @@
 //! Readers and writers that record failures and their end.
 use simd_json_print::text::Target;
 use std::io;
-use std::io::{Read, Write};
+use std::io::{ErrorKind, Read, Write};
 use std::marker::Model;
 
-/// A reader or a writer that records whether a call on it failed, and whether it ended. Only its
-/// own calls set these flags, [`failed`](Channel::failed) and [`ended`](Channel::ended). Text is
+/// A reader or a writer that records whether a call on it failed, whether who reads what it writes
+/// has closed it, and whether it ended. Only its own calls set these flags,
+/// [`failed`](Channel::failed), [`closed`](Channel::closed) and [`ended`](Channel::ended). Text is
 /// written to it as to any [`Target`].
 ///
 /// ```
@@ -24,6 +25,7 @@ use std::marker::Model;
 pub struct Channel<T> {
     inner: T,
     failed: bool,
+    closed: bool,
     ended: bool,
 }
 
@@ -32,7 +34,12 @@ impl<T> Model for Channel<T> {
 
     ghost Value = { Watched T };
 
-    ghost view = { λ c. record { inner = c.inner; failed = c.failed; ended = c.ended } };
+    ghost view = { λ c. record {
+      inner = c.inner;
+      failed = c.failed;
+      closed = c.closed;
+      ended = c.ended;
+    } };
 }
 
 impl<T> Channel<T> {
@@ -40,11 +47,12 @@ impl<T> Channel<T> {
 
     /// A reader or a writer that has neither failed nor ended.
     pub fn new(inner: T) -> Channel<T>
-        ensures { result ≡ record { inner = inner; failed = false; ended = false } }
+        ensures { result ≡ record { inner = inner; failed = false; closed = false; ended = false } }
     {
         Channel {
             inner,
             failed: false,
+            closed: false,
             ended: false,
         }
     }
@@ -54,6 +62,13 @@ impl<T> Channel<T> {
         ensures { result ≡ self.now.failed }
     {
         self.failed
+    }
+
+    /// Whether a write returned an error of kind `BrokenPipe`.
+    pub fn closed(&self) -> bool
+        ensures { result ≡ self.now.closed }
+    {
+        self.closed
     }
 
     /// Whether a read into a non-empty buffer returned 0.
@@ -86,6 +101,7 @@ impl<R: Read> Channel<R> {
             result buf.new }
         ensures failed { self.new.failed ≡ (self.old.failed || is_err result) }
         ensures ended { self.new.ended ≡ (self.old.ended || took_none result (length buf.old)) }
+        ensures closed { self.new.closed ≡ self.old.closed }
     {
         let read = self.inner.read(buf);
         match &read {
@@ -99,7 +115,8 @@ impl<R: Read> Channel<R> {
 
 // The only access to the writer, so that no failure goes unrecorded.
 impl<W: Write> Target for Channel<W> {
-    ghost use Rattle.std.specs.Prelude.{◌≡◌, Some};
+    ghost use Rattle.std.specs.Prelude.{◌≡◌, ◌||◌, Some};
+    ghost use Rattle.jsonl.specs.Statuses.{has_pipe_error};
     ghost use Rattle.simd_json_print.specs.Texts.{Takes};
 
     ghost state = { λ channel. record {
@@ -112,12 +129,17 @@ impl<W: Write> Target for Channel<W> {
             (record { held = W.contents self.old.inner; failed = Some self.old.failed })
             (record { held = W.contents self.new.inner; failed = Some self.new.failed })
             result bytes.now }
+        ensures closed { self.new.closed ≡ (self.old.closed || has_pipe_error result) }
         ensures ended { self.new.ended ≡ self.old.ended }
     {
         let written = self.inner.write(bytes);
         match &written {
             Ok(n) if *n > 0 || bytes.is_empty() => {}
-            _ => self.failed = true,
+            Ok(_) => self.failed = true,
+            Err(e) => {
+                self.failed = true;
+                self.closed = self.closed || e.kind() == ErrorKind::BrokenPipe;
+            }
         }
         written
     }

@@ -1,13 +1,13 @@
 //! Why a run over lines ended before the end of its input, and how its program ends.
 ghost use Rattle.std.specs.Prelude.{◌≡◌, ◌++◌, option_map};
 ghost use Rattle.std.specs.Io.KnownBytes.{Appends};
-ghost use Rattle.jsonl.specs.Failures.{Begins, Ends, IsOutputFault, line_of, run_status};
+ghost use Rattle.jsonl.specs.Failures.{Begins, Ends, line_of, output_fault, run_status};
 ghost use Rattle.jsonl.specs.declared.failure.Failure.TheVariants.{Resources};
 
 use crate::channel::Channel;
 use simd_json_print::text::Text;
 use std::alloc::AllocError;
-use std::io::{self, ErrorKind, Write};
+use std::io::Write;
 
 /// Why a run ended before the end of its input.
 #[derive(Clone, Copy, Debug, PartialEq, Eq)]
@@ -25,14 +25,15 @@ pub enum Failure {
 }
 
 impl Failure {
-    /// Returns why the output was not written, by whether no line was rejected so far. Who has
-    /// closed it has had enough of it.
-    pub fn of_output(e: &io::Error, all_taken: bool) -> Failure
-        ensures { IsOutputFault all_taken result }
+    /// Returns why the output was not written, by whether its reader has closed it, and whether no
+    /// line was rejected so far. Who has closed it has had enough of it.
+    pub fn of_output(is_closed: bool, all_taken: bool) -> Failure
+        ensures { result ≡ output_fault is_closed all_taken }
     {
-        match e.kind() {
-            ErrorKind::BrokenPipe => Failure::Closed(all_taken),
-            _ => Failure::Write,
+        if is_closed {
+            Failure::Closed(all_taken)
+        } else {
+            Failure::Write
         }
     }
 }

@@ -23,7 +23,7 @@ impl<T> Port<T> {
 
     /// A port that has neither failed nor ended.
     pub fn new(inner: T) -> Port<T>
-        ensures { result ≡ record { inner = inner; failed = false; ended = false } }
+        ensures { result ≡ record { inner = inner; failed = false; closed = false; ended = false } }
     {
         Port {
             channel: Channel::new(inner),

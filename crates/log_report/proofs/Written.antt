@@ -4,8 +4,8 @@ use Rattle.std.specs.Prelude.{IsErrAnd, MatchResult}
 use Rattle.jsonl.proofs.Calls.{NamesIn}
 use Rattle.jsonl.specs.Failures.{read_fault}
 use Rattle.jsonl.specs.declared.failure.Failure.{Failure}
-use Rattle.jsonl.specs.declared.failure.Failure.TheVariants.{Read, Write, Name, Closed, Resources}
-use Rattle.log_report.specs.Runs.{EndsInput, IsReportFault, input_fault}
+use Rattle.jsonl.specs.declared.failure.Failure.TheVariants.{Read, Closed, Resources}
+use Rattle.log_report.specs.Runs.{EndsInput, input_fault, report_fault}
 
 -- ---- the call that reads an input
 
@@ -30,21 +30,19 @@ read-fault e false false none is = is
 
 -- ---- the call that writes the report
 
-abbrev pub EndsReportIn : Result Unit Failure → Bool → Bool → Type 0 → Type 0 → Type 0
-EndsReportIn q taken new P Q = MatchResult q (λ _. (new ≡ false) × P) (λ failure. IsReportFault taken new failure × Q)
+abbrev pub EndsReportIn : Result Unit Failure → Bool → Bool → Bool → Type 0 → Type 0 → Type 0
+EndsReportIn q taken closed new P Q = MatchResult q (λ _. (new ≡ false) × P) (λ failure. (failure ≡ report_fault taken closed new) × Q)
 
 -- a want of memory that `?` hands on
-pub short-of-memory : (q : Result Unit Failure) (taken new : Bool) (P Q : Type 0) → IsErrAnd q (λ e. e ≡ Resources) → new ≡ false → Q
-    → EndsReportIn q taken new P Q
-short-of-memory (Ok u) taken new P Q is none left = absurd is
-short-of-memory (Err e) taken false P Q is none left = (is, left)
-short-of-memory (Err e) taken true P Q is none left = cc
+pub short-of-memory : (q : Result Unit Failure) (taken closed new : Bool) (P Q : Type 0) → IsErrAnd q (λ e. e ≡ Resources) → new ≡ false → Q
+    → EndsReportIn q taken closed new P Q
+short-of-memory (Ok u) taken closed new P Q is none left = absurd is
+short-of-memory (Err e) taken closed false P Q is none left = (is, left)
+short-of-memory (Err e) taken closed true P Q is none left = cc
 
 -- its reader has closed it
-pub closed-by : (e : Failure) (taken failed t : Bool) → IsReportFault taken failed e → e ≡ Closed t → (failed ≡ true) × (t ≡ taken)
-closed-by (Closed s) taken true t fault is = (refl, cc)
-closed-by Read taken true t fault is = cc
-closed-by Write taken true t fault is = cc
-closed-by Name taken true t fault is = cc
-closed-by Resources taken true t fault is = cc
-closed-by e taken false t fault is = cc
+pub closed-by : (e : Failure) (taken closed failed t : Bool) → e ≡ report_fault taken closed failed → e ≡ Closed t
+    → (failed ≡ true) × (t ≡ taken)
+closed-by e taken true true t fault is = (refl, cc)
+closed-by e taken false true t fault is = cc
+closed-by e taken closed false t fault is = cc

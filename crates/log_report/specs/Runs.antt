@@ -2,7 +2,7 @@
 use Rattle.std.specs.Prelude.{◌≡◌, ◌↔◌, ◌||◌, ℕ, List, [], ◌∷◌, length, map, Bool, true, false, Option}
 use Rattle.std.specs.Prelude.{OnOk, IfErr, IsErrAnd, Result, Ok, Err, MatchResult, Vec}
 use Rattle.std.specs.Io.KnownBytes.{Appends, Consumes, IsAtEnd, Keeps}
-use Rattle.jsonl.specs.Failures.{Begins, IsOutputFault, is_write, name_fault}
+use Rattle.jsonl.specs.Failures.{Begins, SaysClosed, is_write, name_fault, output_fault}
 use Rattle.jsonl.specs.Ports.{Watched}
 use Rattle.jsonl.specs.declared.failure.Failure.{Failure}
 use Rattle.jsonl.specs.declared.failure.Failure.TheVariants.{Read, Name, Closed, Resources}
@@ -72,6 +72,7 @@ pub record Reports {R W E : Type 0} (remaining : R → Option (List ℕ)) (writt
       (naming rejections.inner) (naming rejects.inner) reports.failed)
   pub read : (result ≡ Err Read) ↔ (has_failed reads ≡ true)
   pub write : IsErrAnd result (λ failure. is_write failure ≡ true) ↔ (reports.failed ≡ true)
+  pub closed : IfErr result (SaysClosed reports.closed)
   pub name : (result ≡ Err Name) ↔ (rejects.failed ≡ true)
 
 -- ---- what private clauses cite
@@ -92,14 +93,14 @@ abbrev pub AddsValue : {A : Type 0} → Lines A → Lines A → Document → Typ
 AddsValue old new d = CountsMore old new (row_label old.wanted.now d) 1
 
 -- what a call on the report's writer ends in, if its failures come from there or from want of memory
-abbrev pub IsReportFault : Bool → Bool → Failure → Type 0
-IsReportFault taken true failure = IsOutputFault taken failure
-IsReportFault taken false failure = failure ≡ Resources
+abbrev pub report_fault : Bool → Bool → Bool → Failure
+report_fault taken closed true = output_fault closed taken
+report_fault taken closed false = Resources
 
 -- of such a call: P, and the writer has not failed; or a failure, and Q
 abbrev pub EndsReport : {T : Type 0} → Bool → Watched T → Watched T → Type 0 → Type 0 → Result Unit Failure → Type 0
 EndsReport taken old new P Q result = old.failed ≡ false
-    → MatchResult result (λ _. (new.failed ≡ false) × P) (λ failure. IsReportFault taken new.failed failure × Q)
+    → MatchResult result (λ _. (new.failed ≡ false) × P) (λ failure. (failure ≡ report_fault taken new.closed new.failed) × Q)
 
 -- of a writer of what is known: the report is written
 abbrev pub Prints : {A W : Type 0} → (W → Option (List ℕ)) → Lines A → Watched W → Watched W → Type 0

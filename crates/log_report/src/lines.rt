@@ -191,7 +191,7 @@ impl<'k, A: Allocator + Copy> Lines<'k, A> {
         }
         match text.finish() {
             Ok(()) => Ok(()),
-            Err(e) => Err(Failure::of_output(&e, self.all_taken)),
+            Err(_) => Err(Failure::of_output(out.closed(), self.all_taken)),
         }
     }
 }

@@ -8,6 +8,7 @@ use std::test::Fail;
 mod checks;
 mod counts;
 mod lines;
+mod options;
 mod picks;
 
 type Tested = std::result::Result<(), Fail>;

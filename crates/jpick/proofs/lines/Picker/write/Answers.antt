@@ -1,10 +1,10 @@
-use Rattle.std.proofs.Common.{◌≡◌, [], refl, rules, subst, false, true}
+use Rattle.std.proofs.Common.{◌≡◌, ◌∙◌, [], ap, refl, rules, subst, false, true}
 use Rattle.std.specs.Io.KnownBytes.{Appends}
 use Rattle.std.specs.Prelude.{Some}
 use Rattle.simd_json_print.specs.Texts.{TargetState}
 use Rattle.simd_json_print.proofs.Texts.{ended-failed, ended-sound}
 use Rattle.jpick.specs.Runs.{Writes}
-use Rattle.jsonl.specs.Failures.{Begins, IsOutputFault}
+use Rattle.jsonl.specs.Failures.{Begins, output_fault}
 use Rattle.jpick.proofs.lines.Picker.write.Goals as goal
 
 pub returns-in-Err : goal.returns-in-Err
@@ -12,16 +12,18 @@ returns-in-Err g c = λ sound.
     let start : TargetState = record { held = g.W.Write.contents c.args.out.now.inner; failed = Some c.args.out.now.failed } in
     let ends = c.finish.ensures start _ (c.put.ensures.given start [] c.new-text.ensures.empty) in
     let failed = ended-failed c.finish.result _ _ _ _ _ ends (search rules) in
-    let fact : (c.finish.new.self.0.failed ≡ true) × IsOutputFault c.args.self.now.all_taken c.of_output.result
+    let closed : c.closed.result ≡ c.finish.new.self.0.closed = search rules in
+    let fact : (c.finish.new.self.0.failed ≡ true)
+    × (c.of_output.result ≡ output_fault c.finish.new.self.0.closed c.args.self.now.all_taken)
     × Begins start.held (g.W.Write.contents c.finish.new.self.0.inner) c.args.self.now.rows.items = (
       failed.0,
-      c.of_output.ensures,
+      c.of_output.ensures ∙ ap (λ b. output_fault b c.args.self.now.all_taken) closed,
       subst (Begins start.held (g.W.Write.contents c.finish.new.self.0.inner)) c.as_slice.ensures.value failed.1,
     ) in
     search rules
 
-pub returns : goal.returns
-returns g c = λ sound.
+pub returns-in-Ok : goal.returns-in-Ok
+returns-in-Ok g c = λ sound.
     let start : TargetState = record { held = g.W.Write.contents c.args.out.now.inner; failed = Some c.args.out.now.failed } in
     let ends = c.finish.ensures start _ (c.put.ensures.given start [] c.new-text.ensures.empty) in
     let all = ended-sound c.finish.result _ _ _ _ _ ends sound (search rules) in

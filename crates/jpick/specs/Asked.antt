@@ -1,0 +1,45 @@
+-- What the words of a command line ask for, by what was found in them.
+use Rattle.std.specs.Prelude.{◌≡◌, ℕ, List, [], ◌∷◌, codes, map, Bool, true, false, bytes_eq}
+use Rattle.std.specs.Option.{option_map_or}
+use Rattle.clap.specs.Matches.{first_value, matched_of, raw_values}
+use Rattle.clap.specs.declared.parser.matches.Found.{Found}
+use Rattle.jpick.specs.declared.fields.Layout.{Layout}
+use Rattle.jpick.specs.declared.fields.Layout.TheVariants.{Tabs, Tsv, Csv, Json}
+use Rattle.jpick.specs.declared.options.Flags.{Flags}
+use Rattle.jpick.specs.declared.options.Options.{Options}
+
+-- the option without a value is among the words
+abbrev pub is_given : Found → List ℕ → Bool
+is_given f name = option_map_or (bytes_eq (codes "true")) (first_value f name) false
+
+-- by --tsv, --csv and --json, of which at most one may be given
+abbrev pub layout_of : Bool → Bool → Bool → Layout
+layout_of true csv json = Tsv
+layout_of false true json = Csv
+layout_of false false true = Json
+layout_of false false false = Tabs
+
+abbrev pub flags_of : Found → Flags
+flags_of f = record {
+  layout = layout_of (is_given f (codes "tsv")) (is_given f (codes "csv")) (is_given f (codes "json"));
+  is_raw = is_given f (codes "raw");
+  needs_all = is_given f (codes "all");
+  is_quiet = is_given f (codes "quiet");
+}
+
+-- the values of an argument, in order
+abbrev pub texts_of : Found → List ℕ → List (List ℕ)
+texts_of f name = option_map_or raw_values (matched_of f name) []
+
+-- standard input, if no file is named
+abbrev pub or_input : List (List ℕ) → List (List ℕ)
+or_input [] = codes "-" ∷ []
+or_input (name ∷ names) = name ∷ names
+
+abbrev pub files_of : Found → List (List ℕ)
+files_of f = or_input (texts_of f (codes "file"))
+
+pub record HasOptions (f : Found) (o : Options) : Type 0 where
+  pub pointers : map (λ pointer. pointer.now) o.pointers.items ≡ texts_of f (codes "pointer")
+  pub flags : o.flags ≡ flags_of f
+  pub files : map (λ name. name.now) o.files.items ≡ files_of f

@@ -1,0 +1,18 @@
+-- How the program ends after runs over files.
+use Rattle.std.specs.Prelude.{ℕ, max, List, Bool, true, false, Result, Ok, Err}
+use Rattle.jsonl.specs.Failures.{run_status}
+use Rattle.jsonl.specs.Turns.{HasRunEach}
+use Rattle.jsonl.specs.declared.failure.Failure.{Failure}
+use Rattle.jsonl.specs.declared.failure.Failure.TheVariants.{Closed}
+
+-- nobody reads the output any more
+abbrev pub skips_files : Result Bool Failure → Bool
+skips_files (Err (Closed taken)) = true
+skips_files _ = false
+
+abbrev pub status_after : ℕ → Result Bool Failure → ℕ
+status_after status r = max status (run_status r)
+
+-- The files had runs in turn, up to the first after which nobody reads the output any more, and the status is the greatest of them.
+abbrev pub HasPickedEach : {S X : Type 0} → (S → X → Result Bool Failure → S → Type 0) → S → List X → ℕ → Type 0
+HasPickedEach step s files status = HasRunEach step skips_files status_after 0 s files status

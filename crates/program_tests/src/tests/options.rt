@@ -1,0 +1,212 @@
+//! What the arguments of `jpick` ask for, and how files are picked of in turn.
+use crate::tests::Tested;
+use bumpalo::Bump;
+use jpick::{Filter, Layout, Unasked, asked, pick_each};
+use jsonl::Failure;
+use std::alloc::{AllocError, Global};
+
+// The words of a command line.
+fn words(alloc: Global, arguments: &[&str]) -> Result<Vec<String>, AllocError> {
+    let mut words = Vec::new(alloc);
+    words.push(String::from_str(alloc, "jpick")?)?;
+    for argument in arguments {
+        words.push(String::from_str(alloc, *argument)?)?;
+    }
+    Ok(words)
+}
+
+// Arguments; the layout; whether rows are raw, need all and are quiet; how many bytes a line may
+// have; files. The pointers are `/a` and `/b`.
+type Row = (
+    &'static [&'static str],
+    Layout,
+    [bool; 3],
+    usize,
+    &'static [&'static str],
+);
+
+#[test]
+fn arguments_are_read(rt: HostRuntime) -> Tested {
+    let none = [false; 3];
+    let rows: [Row; 13] = [
+        (&["/a", "/b"], Layout::Tabs, none, 65_536, &["-"]),
+        (&["--tsv", "/a", "/b"], Layout::Tsv, none, 65_536, &["-"]),
+        (&["--csv", "/a", "/b"], Layout::Csv, none, 65_536, &["-"]),
+        (&["--json", "/a", "/b"], Layout::Json, none, 65_536, &["-"]),
+        (&["/a", "--json", "/b"], Layout::Json, none, 65_536, &["-"]),
+        (
+            &["-r", "/a", "/b"],
+            Layout::Tabs,
+            [true, false, false],
+            65_536,
+            &["-"],
+        ),
+        (
+            &["--raw", "/a", "/b"],
+            Layout::Tabs,
+            [true, false, false],
+            65_536,
+            &["-"],
+        ),
+        (
+            &["--all", "/a", "/b"],
+            Layout::Tabs,
+            [false, true, false],
+            65_536,
+            &["-"],
+        ),
+        (
+            &["-q", "/a", "/b"],
+            Layout::Tabs,
+            [false, false, true],
+            65_536,
+            &["-"],
+        ),
+        (
+            &["--quiet", "/a", "/b"],
+            Layout::Tabs,
+            [false, false, true],
+            65_536,
+            &["-"],
+        ),
+        (
+            &["--longest", "7", "/a", "/b"],
+            Layout::Tabs,
+            none,
+            7,
+            &["-"],
+        ),
+        (
+            &["/a", "/b", "--", "f", "-", "--csv"],
+            Layout::Tabs,
+            none,
+            65_536,
+            &["f", "-", "--csv"],
+        ),
+        (
+            &[
+                "-rq",
+                "--all",
+                "--csv",
+                "--longest=4294967295",
+                "/a",
+                "/b",
+                "--",
+                "f",
+            ],
+            Layout::Csv,
+            [true; 3],
+            4_294_967_295,
+            &["f"],
+        ),
+    ];
+    for (arguments, layout, flags, longest, files) in rows {
+        let words = words(rt.alloc(), arguments)?;
+        let arena = Bump::new(rt.alloc());
+        let Ok(options) = asked(rt.alloc(), &arena, words.as_slice()) else {
+            assert!(rt; false);
+            continue;
+        };
+        let wanted = options.wanted();
+        assert_eq!(rt; wanted.layout, layout);
+        assert_eq!(rt; [wanted.is_raw, wanted.needs_all, wanted.is_quiet], flags);
+        assert_eq!(rt; wanted.longest, longest);
+        assert_eq!(rt; wanted.pointers, ["/a", "/b"].as_slice());
+        assert_eq!(rt; wanted.filters.len(), 0);
+        assert_eq!(rt; options.files(), files);
+    }
+    Ok(())
+}
+
+// Those of `--where` are first, and those of `--exists` last; each in the order of its words.
+#[test]
+fn conditions_are_read(rt: HostRuntime) -> Tested {
+    let arguments = [
+        "--exists",
+        "/e",
+        "--where-not",
+        "/n=[1]",
+        "--where",
+        "/a=1",
+        "--where=/b=\"=\"",
+        "/k",
+    ];
+    let words = words(rt.alloc(), &arguments)?;
+    let arena = Bump::new(rt.alloc());
+    let Ok(options) = asked(rt.alloc(), &arena, words.as_slice()) else {
+        assert!(rt; false);
+        return Ok(());
+    };
+    match options.wanted().filters {
+        [
+            Filter::Is(first, one),
+            Filter::Is(second, equals),
+            Filter::IsNot(third, list),
+            Filter::Exists(last),
+        ] => {
+            assert_eq!(rt; [*first, *second, *third, *last], ["/a", "/b", "/n", "/e"]);
+            assert_eq!(rt; one.as_u64(), Some(1));
+            assert_eq!(rt; equals.as_str(), Some("="));
+            assert!(rt; list.is_array());
+        }
+        _ => assert!(rt; false),
+    }
+    Ok(())
+}
+
+#[test]
+fn wrong_arguments_are_named(rt: HostRuntime) -> Tested {
+    let rows: [(&[&str], &str, &str); 7] = [
+        (&["a"], "a", ""),
+        (&["/a", "/~"], "/~", ""),
+        (&["/a", "--exists", "b"], "b", ""),
+        (&["/a", "--where", "b=1"], "b", ""),
+        (&["/a", "--where", "/b"], "", "/b"),
+        (&["/a", "--where-not", "/b="], "", "/b="),
+        (&["/a", "--where", "/b=[1,]"], "", "/b=[1,]"),
+    ];
+    for (arguments, pointer, condition) in rows {
+        let words = words(rt.alloc(), arguments)?;
+        let arena = Bump::new(rt.alloc());
+        match asked(rt.alloc(), &arena, words.as_slice()) {
+            Err(Unasked::NoPointer(word)) => assert_eq!(rt; (word, ""), (pointer, condition)),
+            Err(Unasked::NoCondition(word)) => assert_eq!(rt; ("", word), (pointer, condition)),
+            _ => assert!(rt; false),
+        }
+    }
+    Ok(())
+}
+
+// How many files are picked of, and the status, where their runs return these in turn.
+fn picked(results: [Result<bool, Failure>; 3]) -> (usize, u8) {
+    let mut count = 0usize;
+    let status = pick_each(
+        |_file| {
+            let result = results[count % 3];
+            count = count.saturating_add(1);
+            result
+        },
+        &["a", "b", "c"],
+    );
+    (count, status)
+}
+
+// A closed output alone skips the files after it.
+#[test]
+fn files_are_picked_in_turn(rt: HostRuntime) {
+    let (clean, rejected, unread) = (Ok(true), Ok(false), Err(Failure::Read));
+    assert_eq!(rt; picked([clean, clean, clean]), (3, 0));
+    assert_eq!(rt; picked([rejected, clean, clean]), (3, 1));
+    assert_eq!(rt; picked([clean, unread, rejected]), (3, 3));
+    assert_eq!(rt; picked([Err(Failure::Write), clean, rejected]), (3, 3));
+    assert_eq!(rt; picked([clean, Err(Failure::Closed(true)), unread]), (2, 0));
+    assert_eq!(rt;
+        picked([rejected, Err(Failure::Closed(true)), unread]),
+        (2, 1)
+    );
+    assert_eq!(rt;
+        picked([Err(Failure::Closed(false)), clean, unread]),
+        (1, 1)
+    );
+    assert_eq!(rt; picked([unread, Err(Failure::Closed(true)), clean]), (2, 3));
+}
