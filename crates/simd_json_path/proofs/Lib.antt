@@ -1,0 +1,6 @@
+pub mod Stacks
+pub mod Segments
+pub mod Heights
+pub mod Rooms
+pub mod Slices
+pub mod Backs

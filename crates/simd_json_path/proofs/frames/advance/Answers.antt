@@ -1,0 +1,166 @@
+use Rattle.std.proofs.Common.{◌≡◌, ◌∙◌, ap, sym, refl, ◌+◌, ◌-◌, ◌∷◌, ◌++◌, suc, length, take, arith}
+use Rattle.std.proofs.Common.{Some, None}
+use Rattle.simd_json.specs.Viewed.{doc}
+use Rattle.simd_json_path.specs.Frames.{frames_effort, frames_left}
+use Rattle.simd_json_path.specs.Room.{selected_in}
+use Rattle.simd_json_path.proofs.Stacks.{selected-here, selected-scalar, selected-full, effort-some, same-place}
+use Rattle.simd_json_path.proofs.frames.advance.Goals as goal
+
+-- ---- the innermost frame is finished
+
+pub frames-smaller-in_default : goal.frames-smaller-in_default
+frames-smaller-in_default c =
+    let root = doc c.args.root in
+    let n = c.frames.opened in
+    let old = c.frames.frames in
+    let new = c.step.new.frames in
+    let room = length old - n in
+    let kept : length new ≡ length old = c.step.auto.frames in
+    let size : length old ≡ n - 1 + suc room = omega arith in
+    let last : n ≡ n - 1 + 1 = omega arith in
+    let before = same-place (frames_effort root) (length old) (n - 1 + suc room) n (n - 1 + 1) old size last in
+    let after = same-place (frames_effort root) (length new) (n - 1 + suc room) (n - 1) (n - 1) new (kept ∙ size) refl in
+    omega (arith, before, after, c.in_default.ensures.effort room)
+
+pub frames-preserved-in_default : goal.frames-preserved-in_default
+frames-preserved-in_default c =
+    let root = doc c.args.root in
+    let n = c.frames.opened in
+    let old = c.frames.frames in
+    let new = c.step.new.frames in
+    let room = length old - n in
+    let kept : length new ≡ length old = c.step.auto.frames in
+    let size : length old ≡ n - 1 + suc room = omega arith in
+    let last : n ≡ n - 1 + 1 = omega arith in
+    record {
+      within = omega arith;
+      left = same-place (frames_left root) (length new) (n - 1 + suc room) (n - 1) (n - 1) new (kept ∙ size) refl
+          ∙ sym (c.in_default.ensures.left room)
+          ∙ sym (same-place (frames_left root) (length old) (n - 1 + suc room) n (n - 1 + 1) old size last)
+          ∙ c.frames.invariant.left;
+    }
+
+-- ---- it gives a value that is selected
+
+pub returns-then-is_empty-clause-left : goal.returns-then-is_empty-clause-left
+returns-then-is_empty-clause-left c =
+    let root = doc c.args.root in
+    let n = c.frames.opened in
+    let old = c.frames.frames in
+    let new = c.step.new.frames in
+    let room = length old - n in
+    let kept : length new ≡ length old = c.step.auto.frames in
+    let size : length old ≡ n - 1 + suc room = omega arith in
+    let last : n ≡ n - 1 + 1 = omega arith in
+    let here = selected-here root room c.in-Some.segments.now (doc c.in-Some.value) (sym c.is_empty.ensures ∙ c.if-is_empty.true) in
+    sym c.frames.invariant.left
+    ∙ same-place (frames_left root) (length old) (n - 1 + suc room) n (n - 1 + 1) old size last
+    ∙ c.in-Some.ensures.left room
+    ∙ ap (λ xs. xs ++ frames_left root (n - 1 + suc room) (take (n - 1 + 1) new)) here
+    ∙ ap (λ xs. Some (doc c.in-Some.value) ∷ xs)
+    (sym (same-place (frames_left root) (length new) (n - 1 + suc room) n (n - 1 + 1) new (kept ∙ size) last))
+
+-- ---- or a scalar, of which nothing is selected
+
+pub frames-smaller-then-not-is_container : goal.frames-smaller-then-not-is_container
+frames-smaller-then-not-is_container c =
+    let root = doc c.args.root in
+    let n = c.frames.opened in
+    let old = c.frames.frames in
+    let new = c.step.new.frames in
+    let room = length old - n in
+    let kept : length new ≡ length old = c.step.auto.frames in
+    let size : length old ≡ n - 1 + suc room = omega arith in
+    let last : n ≡ n - 1 + 1 = omega arith in
+    let some = effort-some root room c.in-Some.segments.now (doc c.in-Some.value) in
+    let before = same-place (frames_effort root) (length old) (n - 1 + suc room) n (n - 1 + 1) old size last in
+    let after = same-place (frames_effort root) (length new) (n - 1 + suc room) n (n - 1 + 1) new (kept ∙ size) last in
+    omega (arith, before, after, some, c.in-Some.ensures.effort room)
+
+pub frames-preserved-then-not-is_container : goal.frames-preserved-then-not-is_container
+frames-preserved-then-not-is_container c =
+    let root = doc c.args.root in
+    let n = c.frames.opened in
+    let old = c.frames.frames in
+    let new = c.step.new.frames in
+    let room = length old - n in
+    let kept : length new ≡ length old = c.step.auto.frames in
+    let size : length old ≡ n - 1 + suc room = omega arith in
+    let last : n ≡ n - 1 + 1 = omega arith in
+    let none = selected-scalar root room c.in-Some.segments.now (doc c.in-Some.value)
+    (sym c.is_empty.ensures ∙ c.if-is_empty.false) (sym c.is_container.ensures ∙ c.if-not-is_container.true) in
+    record {
+      within = omega arith;
+      left = same-place (frames_left root) (length new) (n - 1 + suc room) n (n - 1 + 1) new (kept ∙ size) last
+          ∙ sym (ap (λ xs. xs ++ frames_left root (n - 1 + suc room) (take (n - 1 + 1) new)) none)
+          ∙ sym (c.in-Some.ensures.left room)
+          ∙ sym (same-place (frames_left root) (length old) (n - 1 + suc room) n (n - 1 + 1) old size last)
+          ∙ c.frames.invariant.left;
+    }
+
+-- ---- or one for which no frame is left
+
+pub returns-then-opened-frames-clause-left : goal.returns-then-opened-frames-clause-left
+returns-then-opened-frames-clause-left c =
+    let root = doc c.args.root in
+    let n = c.frames.opened in
+    let old = c.frames.frames in
+    let new = c.step.new.frames in
+    let kept : length new ≡ length old = c.step.auto.frames in
+    let size : length old ≡ n - 1 + suc 0 = omega arith in
+    let last : n ≡ n - 1 + 1 = omega arith in
+    let full = selected-full root c.in-Some.segments.now (doc c.in-Some.value)
+    (sym c.is_empty.ensures ∙ c.if-is_empty.false) (sym c.is_container.ensures ∙ c.if-not-is_container.false) in
+    sym c.frames.invariant.left
+    ∙ same-place (frames_left root) (length old) (n - 1 + suc 0) n (n - 1 + 1) old size last
+    ∙ c.in-Some.ensures.left 0
+    ∙ ap (λ xs. xs ++ frames_left root (n - 1 + suc 0) (take (n - 1 + 1) new)) full
+    ∙ ap (λ xs. None ∷ xs)
+    (sym (same-place (frames_left root) (length new) (n - 1 + suc 0) n (n - 1 + 1) new (kept ∙ size) last))
+
+-- ---- or one that is opened
+
+pub frames-smaller : goal.frames-smaller
+frames-smaller c =
+    let root = doc c.args.root in
+    let n = c.frames.opened in
+    let old = c.frames.frames in
+    let new = c.step.new.frames in
+    let more = c.enter.new.frames in
+    let room = length old - n - 1 in
+    let kept : length new ≡ length old = c.step.auto.frames in
+    let kept2 : length more ≡ length new = c.enter.auto.frames in
+    let size : length old ≡ n - 1 + suc (suc room) = omega arith in
+    let size2 : length more ≡ n + suc room = omega arith in
+    let same : n - 1 + suc (suc room) ≡ n + suc room = omega arith in
+    let last : n ≡ n - 1 + 1 = omega arith in
+    let before = same-place (frames_effort root) (length old) (n - 1 + suc (suc room)) n (n - 1 + 1) old size last in
+    let between = same-place (frames_effort root) (n - 1 + suc (suc room)) (n + suc room) (n - 1 + 1) n new same (sym last) in
+    let after = same-place (frames_effort root) (length more) (n + suc room) (n + 1) (n + 1) more size2 refl in
+    omega (arith, before, between, after, c.in-Some.ensures.effort (suc room), c.enter.ensures.effort root room)
+
+pub frames-preserved : goal.frames-preserved
+frames-preserved c =
+    let root = doc c.args.root in
+    let n = c.frames.opened in
+    let old = c.frames.frames in
+    let new = c.step.new.frames in
+    let more = c.enter.new.frames in
+    let room = length old - n - 1 in
+    let kept : length new ≡ length old = c.step.auto.frames in
+    let kept2 : length more ≡ length new = c.enter.auto.frames in
+    let size : length old ≡ n - 1 + suc (suc room) = omega arith in
+    let size2 : length more ≡ n + suc room = omega arith in
+    let same : n - 1 + suc (suc room) ≡ n + suc room = omega arith in
+    let last : n ≡ n - 1 + 1 = omega arith in
+    let found = selected_in root (suc room) c.in-Some.segments.now (doc c.in-Some.value) in
+    record {
+      within = omega arith;
+      left = same-place (frames_left root) (length more) (n + suc room) (n + 1) (n + 1) more size2 refl
+          ∙ c.enter.ensures.left root room
+          ∙ ap (λ xs. found ++ xs)
+          (sym (same-place (frames_left root) (n - 1 + suc (suc room)) (n + suc room) (n - 1 + 1) n new same (sym last)))
+          ∙ sym (c.in-Some.ensures.left (suc room))
+          ∙ sym (same-place (frames_left root) (length old) (n - 1 + suc (suc room)) n (n - 1 + 1) old size last)
+          ∙ c.frames.invariant.left;
+    }

@@ -1,0 +1,5 @@
+use Rattle.simd_json_path.proofs.Rooms.{path-enough}
+use Rattle.simd_json_path.proofs.laws.frames_suffice.Goals as goal
+
+pub returns : goal.returns
+returns c = path-enough

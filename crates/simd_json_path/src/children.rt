@@ -1,0 +1,97 @@
+//! Children of a value.
+ghost use Rattle.std.specs.Prelude.{◌≡◌, option_map};
+ghost use Rattle.simd_json.specs.Viewed.{doc};
+ghost use Rattle.simd_json_path.specs.Places.{at_index};
+
+use crate::back::Back;
+use crate::path::Slice;
+use crate::slice::Every;
+use simd_json::tape::{Value, array, object};
+
+// What is left of some children of a value.
+#[derive(Clone, Copy, Debug)]
+pub(crate) enum Children<'tape, 'input> {
+    One(Option<Value<'tape, 'input>>),
+    Elements(array::Iter<'tape, 'input>),
+    Values(object::Values<'tape, 'input>),
+    Every(Every<'tape, 'input>),
+    Back(Back<'tape, 'input>),
+}
+
+impl<'tape, 'input> Children<'tape, 'input> {
+    ghost use Rattle.std.specs.Prelude.{◌≡◌};
+    ghost use Rattle.simd_json.specs.Beneath.{children};
+    ghost use Rattle.simd_json.specs.Viewed.{doc};
+    ghost use Rattle.simd_json_path.specs.Slices.{sliced};
+    ghost use Rattle.simd_json_path.specs.Sliced.{children_left};
+
+    // All of them.
+    pub(crate) fn of(value: Value<'tape, 'input>) -> Self
+        ensures { children_left result ≡ children (doc value.entry) }
+    {
+        if let Some(array) = value.as_array() {
+            return Children::Elements(array.iter());
+        }
+        if let Some(object) = value.as_object() {
+            return Children::Values(object.values());
+        }
+        Children::One(None)
+    }
+
+    // Those that a slice selects.
+    pub(crate) fn in_slice(slice: &Slice, value: Value<'tape, 'input>) -> Self
+        ensures { children_left result ≡ sliced slice.now (doc value.entry) }
+    {
+        let Some(array) = value.as_array() else {
+            return Children::One(None);
+        };
+        if slice.step > 0 {
+            return Children::Every(Every::of(slice, array, slice.step as usize - 1));
+        }
+        if slice.step < 0 {
+            let gap = slice.step.unsigned_abs() as usize - 1;
+            return Children::Back(Back::of(slice, array, gap));
+        }
+        Children::One(None)
+    }
+}
+
+impl<'tape, 'input> Iterator for Children<'tape, 'input> {
+    type Item = Value<'tape, 'input>;
+
+    ghost use Rattle.std.specs.Iterator.{YieldsFirstBy, item_count};
+    ghost use Rattle.simd_json.specs.Viewed.{doc};
+    ghost use Rattle.simd_json_path.specs.Sliced.{children_left};
+
+    ghost next_gives = { YieldsFirstBy doc children_left };
+
+    ghost remaining = { item_count children_left };
+
+    fn next(&mut self) -> Option<Value<'tape, 'input>> {
+        match self {
+            Children::One(value) => value.take(),
+            Children::Elements(elements) => elements.next(),
+            Children::Values(values) => values.next(),
+            Children::Every(elements) => elements.next(),
+            Children::Back(elements) => elements.next(),
+        }
+    }
+}
+
+// The element at an index, which below zero counts from the end.
+pub(crate) fn at_index<'tape, 'input>(
+    value: Value<'tape, 'input>,
+    index: i64,
+) -> Option<Value<'tape, 'input>>
+    ensures { option_map doc result ≡ at_index index (doc value.entry) }
+{
+    let array = value.as_array()?;
+    if index >= 0 {
+        return array.get(index as usize);
+    }
+    let from_end = index.unsigned_abs() as usize;
+    if from_end > array.len() {
+        return None;
+    }
+    array.get(array.len() - from_end)
+}

@@ -1,0 +1,27 @@
+//! Where steps lead from what selectors select.
+ghost use Rattle.std.specs.Iterator.{YieldsFirstBy};
+ghost use Rattle.simd_json.specs.Viewed.{doc};
+ghost use Rattle.simd_json_path.specs.Frames.{opened_left};
+ghost use Rattle.simd_json_path.specs.Paths.{followed};
+
+use crate::filter::{Step, follow};
+use crate::opened::Opened;
+use simd_json::tape::Value;
+
+// The next value to which steps lead.
+pub(crate) fn next_followed<'tape, 'input>(
+    opened: &mut Opened<'_, 'tape, 'input>,
+    steps: &[Step<'_>],
+    root: Value<'tape, 'input>,
+) -> Option<Value<'tape, 'input>>
+    ensures { YieldsFirstBy doc (λ o. followed steps.now (opened_left (doc root.entry) o))
+        opened.old result opened.new }
+{
+    'opened: while let Some(value) = opened.next(root) {
+        let reached = follow(steps, value);
+        if reached.is_some() {
+            return reached;
+        }
+    }
+    None
+}

@@ -1,0 +1,100 @@
+//! The values at which segments go on, each inside the one before it.
+ghost use Rattle.std.specs.Prelude.{◌≡◌, ◌+◌, ◌<◌, ◌≤◌, ◌∷◌, ◌++◌, [], suc, ℕ, length, take};
+ghost use Rattle.std.specs.Prelude.{MatchOption};
+ghost use Rattle.simd_json.specs.Viewed.{doc};
+ghost use Rattle.simd_json_parts.specs.Document.{Document};
+ghost use Rattle.simd_json_path.specs.Frames.{frames_effort, frames_left};
+ghost use Rattle.simd_json_path.specs.Left.{item_of};
+ghost use Rattle.simd_json_path.specs.Room.{effort, is_container, selected_in};
+
+use crate::frame::Frame;
+use crate::path::Segment;
+use crate::selected::TooFewFrames;
+use simd_json::tape::Value;
+
+// The next value of the frame at an index, and the segments that go on from it.
+fn step<'path, 'tape, 'input>(
+    frames: &mut [Frame<'path, 'tape, 'input>],
+    last: usize,
+    root: Value<'tape, 'input>,
+) -> Option<(&'path [Segment<'path>], Value<'tape, 'input>)>
+    requires { last < length frames.old }
+    ensures left { (room : ℕ) → MatchOption result
+        (frames_left (doc root.entry) (last + suc room) (take (last + 1) frames.old)
+        ≡ frames_left (doc root.entry) (last + suc room) (take last frames.new))
+        (λ r. frames_left (doc root.entry) (last + suc room) (take (last + 1) frames.old)
+        ≡ selected_in (doc root.entry) room r.0.now (doc r.1)
+        ++ frames_left (doc root.entry) (last + suc room) (take (last + 1) frames.new)) }
+    ensures effort { (room : ℕ) → MatchOption result
+        (frames_effort (doc root.entry) (last + suc room) (take last frames.new)
+        < frames_effort (doc root.entry) (last + suc room) (take (last + 1) frames.old))
+        (λ r. frames_effort (doc root.entry) (last + suc room) (take (last + 1) frames.old)
+        ≡ effort (doc root.entry) room r.0.now (doc r.1)
+        + frames_effort (doc root.entry) (last + suc room) (take (last + 1) frames.new)) }
+{
+    frames[last].next(root)
+}
+
+// Opens a value, inside those that are open.
+fn enter<'path, 'tape, 'input>(
+    frames: &mut [Frame<'path, 'tape, 'input>],
+    at: usize,
+    segments: &'path [Segment<'path>],
+    value: Value<'tape, 'input>,
+)
+    requires within { at < length frames.old }
+    requires some { 0 < length segments.now }
+    ensures left { (root : Document) (room : ℕ)
+        → frames_left root (at + suc room) (take (at + 1) frames.new)
+        ≡ selected_in root (suc room) segments.now (doc value.entry)
+        ++ frames_left root (at + suc room) (take at frames.old) }
+    ensures effort { (root : Document) (room : ℕ)
+        → 1 + frames_effort root (at + suc room) (take (at + 1) frames.new)
+        ≡ effort root (suc room) segments.now (doc value.entry)
+        + frames_effort root (at + suc room) (take at frames.old) }
+{
+    frames[at] = Frame::new(segments, value);
+}
+
+// The next item, where the first `opened` frames are open, in a query that is applied to `root`.
+pub(crate) fn advance<'path, 'tape, 'input>(
+    frames: &mut [Frame<'path, 'tape, 'input>],
+    opened: &mut usize,
+    root: Value<'tape, 'input>,
+) -> Option<Result<Value<'tape, 'input>, TooFewFrames>>
+    requires { opened.old ≤ length frames.old }
+    ensures within { opened.new ≤ length frames.new }
+    ensures left { MatchOption result
+        ((frames_left (doc root.entry) (length frames.old) (take opened.old frames.old) ≡ [])
+        × (frames_left (doc root.entry) (length frames.new) (take opened.new frames.new) ≡ []))
+        (λ r. frames_left (doc root.entry) (length frames.old) (take opened.old frames.old)
+        ≡ item_of r
+        ∷ frames_left (doc root.entry) (length frames.new) (take opened.new frames.new)) }
+{
+    'frames: while *opened > 0 {
+        let last = *opened - 1;
+        let Some((segments, value)) = step(frames, last, root) else {
+            *opened = last;
+            continue;
+        };
+        if segments.is_empty() {
+            return Some(Ok(value));
+        }
+        if !is_container(value) {
+            continue;
+        }
+        if *opened == frames.len() {
+            return Some(Err(TooFewFrames));
+        }
+        enter(frames, *opened, segments, value);
+        *opened += 1;
+    }
+    None
+}
+
+// Whether a value may have children.
+pub(crate) fn is_container(value: Value<'_, '_>) -> bool
+    ensures { result ≡ is_container (doc value.entry) }
+{
+    value.is_array() || value.is_object()
+}

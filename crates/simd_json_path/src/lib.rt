@@ -1,0 +1,79 @@
+//! JSONPath (RFC 9535): the values that a query selects of a [`Value`](simd_json::tape::Value).
+//!
+//! A [`Path`] is a query: slices of segments, selectors and tests that refer to one another, in
+//! constants, on the stack or in an arena. [`Path::select`] is an iterator over what it selects, in
+//! order, which allocates nothing and does not recurse: it keeps its place in [`Frame`]s that the
+//! caller lends.
+//!
+//! ```
+//! use simd_json::tape::Value;
+//! use simd_json_path::{Frame, Path, Segment, Selector, Step, TooFewFrames};
+//!
+//! // The sum of `$.orders[*].items[*].price`, and whether each is an integer.
+//! fn total(value: &Value<'_, '_>) -> Result<Option<u64>, TooFewFrames> {
+//!     let each = Segment {
+//!         selectors: &[Selector::Wildcard],
+//!         is_descendant: false,
+//!         steps: &[Step::Name("items")],
+//!     };
+//!     let price = Segment {
+//!         steps: &[Step::Name("price")],
+//!         ..each
+//!     };
+//!     let path = Path {
+//!         steps: &[Step::Name("orders")],
+//!         segments: &[each, price],
+//!     };
+//!     let mut frames = [Frame::closed(); 2];
+//!     let mut sum = Some(0u64);
+//!     for price in path.select(value, &mut frames) {
+//!         let price = price?.as_u64();
+//!         sum = sum.and_then(|sum| sum.checked_add(price?));
+//!     }
+//!     Ok(sum)
+//! }
+//! ```
+//!
+//! # What is there
+//!
+//! | RFC 9535 | here |
+//! |---|---|
+//! | name, wildcard, index, slice selectors (2.3.1 to 2.3.4) | [`Selector`] |
+//! | filter selectors (2.3.5): existence of a singular query, `!`, `&&`, `\|\|` | [`Test`] |
+//! | child and descendant segments (2.5) | [`Segment`] |
+//! | a query's text, comparisons, functions, normalized paths (2.7) | not yet |
+//!
+//! The RFC leaves the order of an object's members open: here it is the text's. Of equal names a
+//! name selects the first; wildcards and descendant segments visit all.
+//!
+//! # Frames
+//!
+//! A frame is a value at which a segment goes on. [`Path::frames`] returns how many suffice: one for
+//! each segment, and if one is a descendant segment, one for each level of the document besides.
+//! With fewer nothing is left out silently: in the place of what lies beneath a value for which no
+//! frame is left, the iterator returns [`TooFewFrames`], and goes on after it.
+//!
+//! # What is proved
+//!
+//! [`Path::select`] returns exactly what the definitions of `specs/` select, each a section of the
+//! RFC, in order, with duplicates. [`laws`] states how many frames suffice, and that without an
+//! error nothing is left out.
+#![tactic(auto)]
+
+mod back;
+mod children;
+mod filter;
+mod followed;
+mod frame;
+mod frames;
+pub mod laws;
+mod opened;
+mod path;
+mod picked;
+mod selected;
+mod slice;
+
+pub use filter::{SingularQuery, Step, Test};
+pub use frame::Frame;
+pub use path::{Path, Segment, Selector, Slice};
+pub use selected::{Selected, TooFewFrames};

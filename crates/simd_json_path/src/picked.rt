@@ -1,0 +1,60 @@
+//! What one selector selects of one value.
+use crate::children::{Children, at_index};
+use crate::filter::{Test, holds};
+use crate::path::Selector;
+use simd_json::tape::Value;
+
+// What is left of what a selector selects: those of the children that pass the test, if any.
+#[derive(Clone, Copy)]
+pub(crate) struct Picked<'path, 'tape, 'input> {
+    pub(crate) children: Children<'tape, 'input>,
+    pub(crate) test: Option<&'path Test<'path>>,
+}
+
+impl<'path, 'tape, 'input> Picked<'path, 'tape, 'input> {
+    ghost use Rattle.std.specs.Prelude.{◌≡◌};
+    ghost use Rattle.std.specs.Iterator.{YieldsFirstBy};
+    ghost use Rattle.simd_json.specs.Viewed.{doc};
+    ghost use Rattle.simd_json_parts.specs.Document.{Document};
+    ghost use Rattle.simd_json_path.specs.Frames.{picked_left};
+    ghost use Rattle.simd_json_path.specs.Paths.{selected_by};
+
+    pub(crate) fn new(selector: &Selector<'path>, value: Value<'tape, 'input>) -> Self
+        ensures { (root : Document)
+            → picked_left root result ≡ selected_by root selector.now (doc value.entry) }
+    {
+        if let Selector::Filter(test) = selector {
+            return Picked {
+                children: Children::of(value),
+                test: Some(test),
+            };
+        }
+        let children = match selector {
+            Selector::Name(name) => Children::One(value.get(name)),
+            Selector::Index(index) => Children::One(at_index(value, *index)),
+            Selector::Slice(slice) => Children::in_slice(slice, value),
+            _ => Children::of(value),
+        };
+        Picked {
+            children,
+            test: None,
+        }
+    }
+
+    // The next one, in a query that is applied to `root`.
+    pub(crate) fn next(&mut self, root: Value<'tape, 'input>) -> Option<Value<'tape, 'input>>
+        ensures { YieldsFirstBy doc (picked_left (doc root.entry)) self.old result self.new }
+    {
+        'children: loop {
+            let Some(value) = self.children.next() else {
+                return None;
+            };
+            let Some(test) = self.test else {
+                return Some(value);
+            };
+            if holds(test, root, value) {
+                return Some(value);
+            }
+        }
+    }
+}

@@ -1,0 +1,68 @@
+// The examples of the crate's page and of docs/READING.md, as they stand there.
+use crate::tests::Tested;
+use simd_json::to_tape;
+
+mod page {
+    use simd_json::tape::Value;
+    use simd_json_path::{Frame, Path, Segment, Selector, Step, TooFewFrames};
+
+    // The sum of `$.orders[*].items[*].price`, and whether each is an integer.
+    pub(super) fn total(value: &Value<'_, '_>) -> Result<Option<u64>, TooFewFrames> {
+        let each = Segment {
+            selectors: &[Selector::Wildcard],
+            is_descendant: false,
+            steps: &[Step::Name("items")],
+        };
+        let price = Segment {
+            steps: &[Step::Name("price")],
+            ..each
+        };
+        let path = Path {
+            steps: &[Step::Name("orders")],
+            segments: &[each, price],
+        };
+        let mut frames = [Frame::closed(); 2];
+        let mut sum = Some(0u64);
+        for price in path.select(value, &mut frames) {
+            let price = price?.as_u64();
+            sum = sum.and_then(|sum| sum.checked_add(price?));
+        }
+        Ok(sum)
+    }
+}
+
+mod reading {
+    use simd_json::tape::Value;
+    use simd_json_path::{Frame, Path, Segment, Selector, TooFewFrames};
+
+    // How many values `$..price` selects, at most 30 levels down.
+    pub(super) fn prices(value: &Value<'_, '_>) -> Result<usize, TooFewFrames> {
+        let price = Segment {
+            selectors: &[Selector::Name("price")],
+            is_descendant: true,
+            steps: &[],
+        };
+        let path = Path {
+            steps: &[],
+            segments: &[price],
+        };
+        let mut frames = [Frame::closed(); 31];
+        let mut count = 0usize;
+        for item in path.select(value, &mut frames) {
+            let _price = item?;
+            count = count.saturating_add(1);
+        }
+        Ok(count)
+    }
+}
+
+#[test]
+fn examples_return_what_they_say(rt: HostRuntime) -> Tested {
+    let mut input =
+        *b"{\"orders\":[{\"items\":[{\"price\":5},{\"price\":7}]},{\"items\":[{\"price\":1}]}]}";
+    let tape = to_tape(rt.alloc(), &mut input)?;
+    assert!(rt; !tape.is_empty());
+    assert_eq!(rt; page::total(&tape.as_value())?, Some(13));
+    assert_eq!(rt; reading::prices(&tape.as_value())?, 3);
+    Ok(())
+}
