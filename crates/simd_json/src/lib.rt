@@ -63,8 +63,8 @@
 //!   container that may be open. No parse gives up capacity.
 //! - `len`, and a step of `iter`, `keys` or `values`, take constant time. `get` passes over the
 //!   members before the one that it returns, each in one step: visit all members with an iterator.
-//! - Views allocate nothing, except `encode` and `encode_pp`. Printing takes about 11 bytes of
-//!   stack for each open container.
+//! - Views allocate nothing, except `encode` and `encode_pp`. `write` and `write_pp` take about 11
+//!   bytes of stack for each open container.
 //!
 //! # What is proved
 //!

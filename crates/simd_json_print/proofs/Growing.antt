@@ -1,6 +1,6 @@
 -- What was appended to a list that grows, at the end of a text.
-use Rattle.std.proofs.Common.{◌≡◌, ◌<◌, ◌≤◌, ◌+◌, ◌∙◌, ap, arith, ℕ, Bool, false, List, ◌∷◌, ◌++◌, Some}
-use Rattle.std.proofs.Common.{length, length-append, length-take, take}
+use Rattle.std.proofs.Common.{◌≡◌, ◌<◌, ◌≤◌, ◌+◌, ◌∙◌, ap, sym, arith, ℕ, Bool, false, List, ◌∷◌, ◌++◌, Some}
+use Rattle.std.proofs.Common.{length, length-append, length-take, take, drop, append_assoc, take-append-drop}
 use Rattle.std.proofs.Math.Seq.{take-append_seam}
 use Rattle.std.specs.Prelude.{Result, Ok, Err, OnOk, OnErr}
 use Rattle.std.specs.Vec.{vec_capacity}
@@ -45,3 +45,24 @@ is-appended (Err e) name capacity old new bytes ends =
       begun = (ends.0.0, is);
       grown = omega (arith, same, new.grown);
     }
+
+-- a beginning of a beginning
+front : (k count : ℕ) (bytes : List ℕ)
+    → take k (take count bytes) ≡ take (length (take k (take count bytes))) bytes
+front k count bytes =
+    let whole = take count bytes in
+    let part = take k whole in
+    let rest = drop count bytes in
+    let all = sym (take-append-drop count bytes) ∙ ap (λ us. us ++ rest) (sym (take-append-drop k whole))
+    ∙ append_assoc part (drop k whole) rest in
+    sym (ap (take (length part)) all ∙ take-append_seam part (drop k whole ++ rest))
+
+-- what is begun of a beginning of the bytes
+pub part-begun : {E A : Type 0} (r : Result Unit E) (name capacity count : ℕ) (old : List ℕ) (new : Growing A) (bytes : List ℕ)
+    → HasEnded r (state name capacity old false) (state new.list.ghost_name new.capacity new.list.now.items new.has_failed) (take count bytes)
+    → (k : ℕ) × (new.list.now.items ≡ old ++ take k bytes)
+part-begun {E} (Ok u) name capacity count old new bytes ends =
+    (count, (is-appended {E = E} (Ok u) name capacity old new (take count bytes) ends).all)
+part-begun (Err e) name capacity count old new bytes ends =
+    let part = (is-appended (Err e) name capacity old new (take count bytes) ends).begun in
+    (length (take part.0 (take count bytes)), part.1 ∙ ap (λ us. old ++ us) (front part.0 count bytes))

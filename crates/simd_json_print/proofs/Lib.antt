@@ -3,6 +3,7 @@ pub mod Texts
 pub mod Growing
 pub mod Walk
 pub mod Nestings
+pub mod Levels
 pub mod Lines
 pub mod Runs
 pub mod Unescaped

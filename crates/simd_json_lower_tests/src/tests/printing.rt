@@ -1,8 +1,9 @@
 use crate::tests::takes_all;
+use linked_list_allocator::LocalHeap;
 use simd_json_parts::node::{Node, StaticNode};
 use simd_json_print::document::{
-    Level, append_compact, append_pretty, append_quoted, put_compact_within, write_compact,
-    write_pretty, write_quoted,
+    Level, append_compact, append_compact_within, append_pretty, append_pretty_within,
+    append_quoted, put_compact_within, write_compact, write_pretty, write_quoted,
 };
 use simd_json_print::text::Text;
 use std::alloc::{AllocError, Global};
@@ -259,5 +260,57 @@ fn lent_levels_change_no_text(rt: HostRuntime) -> std::result::Result<(), Fail> 
         text.finish()?;
         assert!(rt; compact.as_slice() == wanted.as_slice(), "{len} levels");
     }
+    Ok(())
+}
+
+// In a heap for the levels of so many bytes. Sixty-four open containers need none; past them the
+// text ends where they can't be had, and what was there before stays.
+#[test]
+fn levels_are_allocated_past_64(rt: HostRuntime) -> std::result::Result<(), Fail> {
+    let rows = [
+        (1, 256, true),
+        (32, 256, true),
+        (33, 256, false),
+        (33, 4096, true),
+        (2000, 4096, false),
+        (2000, 1 << 17, true),
+    ];
+    for (pairs, size, suffices) in rows {
+        let nodes = nested(rt.alloc(), pairs)?;
+        let wanted = nested_text(rt.alloc(), pairs)?;
+        let heap = LocalHeap::new(rt.alloc(), size)?;
+        let mut levels = Vec::new(&heap);
+        let mut compact = Vec::new(rt.alloc());
+        compact.extend_from_slice(b" 1 ")?;
+        let appended = append_compact_within(&mut compact, nodes.as_slice(), &mut levels);
+        assert_eq!(rt; appended.is_ok(), suffices, "{pairs} pairs, {size} bytes");
+        assert!(rt; pairs > 32 || heap.used() == 0, "{pairs} pairs");
+        assert_eq!(rt; &compact[..3], b" 1 ");
+        let text = &compact[3..];
+        assert!(rt; text == &wanted[..text.len()], "{pairs} pairs");
+        assert_eq!(rt; text.len() == wanted.len(), suffices, "{pairs} pairs");
+    }
+    Ok(())
+}
+
+// The levels of one call serve the next, and pretty text is the same with any.
+#[test]
+fn levels_are_kept(rt: HostRuntime) -> std::result::Result<(), Fail> {
+    let heap = LocalHeap::new(rt.alloc(), 1 << 16)?;
+    let mut levels = Vec::new(&heap);
+    for pairs in [100, 32, 100, 40] {
+        let nodes = nested(rt.alloc(), pairs)?;
+        let mut written = Vec::new(rt.alloc());
+        write_pretty(&mut written, nodes.as_slice())?;
+        let mut pretty = Vec::new(rt.alloc());
+        append_pretty_within(&mut pretty, nodes.as_slice(), &mut levels)?;
+        assert!(rt; pretty.as_slice() == written.as_slice(), "{pairs} pairs");
+        assert!(rt; levels.len() >= 200, "{} levels", levels.len());
+    }
+    let used = heap.used();
+    let nodes = nested(rt.alloc(), 100)?;
+    let mut again = Vec::new(rt.alloc());
+    append_compact_within(&mut again, nodes.as_slice(), &mut levels)?;
+    assert_eq!(rt; heap.used(), used);
     Ok(())
 }

@@ -39,7 +39,7 @@ pub(crate) struct Nesting<'l> {
     pub(crate) count: usize,
 }
 
-impl Nesting<'_> {
+impl<'l> Nesting<'l> {
     ghost use Rattle.std.specs.Prelude.{◌≡◌, ◌<◌, ◌≤◌, ◌-◌, get_or, length};
     ghost use Rattle.simd_json_print.specs.Frames.{no_level};
 
@@ -50,6 +50,24 @@ impl Nesting<'_> {
         ensures { result ≡ (get_or self.now.levels.now (self.now.count - 1) no_level).end }
     {
         self.levels[self.count - 1].end as usize
+    }
+
+    /// With levels of which so many are in use.
+    pub(crate) fn over(levels: &'l mut [Level], count: usize) -> Nesting<'l>
+        ensures same_levels { result.levels.ghost_name ≡ levels.entry.ghost_name }
+        ensures levels { result.levels.now ≡ levels.old }
+        ensures count { result.count ≡ count }
+    {
+        Nesting { levels, count }
+    }
+
+    /// How many there are. Gives the levels back.
+    pub(crate) fn into_count(self) -> usize
+        ensures count { result ≡ self.entry.count }
+        ensures levels { self.exit.0.now ≡ self.entry.levels.now }
+    {
+        let Nesting { levels: _, count } = self;
+        count
     }
 
     // Whether the innermost one is an object.
@@ -139,6 +157,7 @@ pub(crate) fn put_from<'tape, 'input, T: Target, const SIZE: usize, const PRETTY
     requires room { depth + nesting.old.count + length value.nodes.now < 2 ^ 64 }
     ensures nested { nesting.new.count ≤ length nesting.new.levels.now }
     ensures levels { length nesting.new.levels.now ≡ length nesting.old.levels.now }
+    ensures same_levels { nesting.new.levels.ghost_name ≡ nesting.old.levels.ghost_name }
     ensures room { nesting.new.count + length result.nodes.now
         ≤ nesting.old.count + length value.entry.nodes.now }
     ensures within { length result.nodes.now ≤ length value.entry.nodes.now }
@@ -175,7 +194,7 @@ pub(crate) fn put_up_to_value<'tape, 'input, T: Target, const SIZE: usize, const
     requires nested { nesting.old.count ≤ length nesting.old.levels.now }
     requires room { depth + nesting.old.count < 2 ^ 64 }
     ensures nested { nesting.new.count ≤ nesting.old.count }
-    ensures levels { nesting.new.levels.now ≡ nesting.old.levels.now }
+    ensures levels { nesting.new.levels ≡ nesting.old.levels }
     ensures within { length result.nodes.now ≤ length nodes.entry.nodes.now }
     ensures kept { AddsSome T.state out.old out.new }
     ensures given { (done : List ℕ) (root : Document)
@@ -310,6 +329,7 @@ fn put_next<'tape, 'input, T: Target, const SIZE: usize>(
     requires nested { nesting.old.count ≤ length nesting.old.levels.now }
     ensures nested { nesting.new.count ≤ length nesting.new.levels.now }
     ensures levels { length nesting.new.levels.now ≡ length nesting.old.levels.now }
+    ensures same_levels { nesting.new.levels.ghost_name ≡ nesting.old.levels.ghost_name }
     ensures room { nesting.new.count + length result.left.nodes.now
         ≤ nesting.old.count + length value.entry.nodes.now }
     ensures shorter { result.is_deep ≡ false

@@ -1,7 +1,9 @@
 //! The printed text of a value: compact, or pretty with a line for each member.
 use crate::value::tape::Value;
 use simd_json_parts::error::Result;
-use simd_json_print::document::{append_compact, append_pretty, write_compact, write_pretty};
+use simd_json_print::document::{
+    append_compact_within, append_pretty_within, write_compact, write_pretty,
+};
 use std::alloc::Allocator;
 use std::io;
 use std::io::Write;
@@ -22,8 +24,8 @@ impl Value<'_, '_> {
     /// 7). The text denotes a value that is equal to this one and nests as deep, so parsed again it
     /// is that value.
     ///
-    /// Each open container takes about 11 bytes of the stack while it is printed, so 8 MB are
-    /// enough for 780,000 nested arrays. The depth limit of the parse bounds their number.
+    /// It takes the same stack however deep the value is nested: past 64 open containers each takes
+    /// 8 bytes of a list, which is freed before the call returns.
     ///
     /// Returns `OutOfMemory`, at index 0 without a character, if an allocation fails, and no other
     /// error.
@@ -36,13 +38,13 @@ impl Value<'_, '_> {
     ///     tape.as_value().encode(rt.alloc())
     /// }
     /// ```
-    pub fn encode<A: Allocator>(&self, a: A) -> Result<String<A>>
+    pub fn encode<A: Allocator + Copy>(&self, a: A) -> Result<String<A>>
         ensures text { IfOk result (λ text. string_bytes text ≡ compact (doc self.now)) }
         ensures denoted { IfOk result (λ text. DenotesEqual (string_bytes text) (doc self.now)) }
         ensures fault { IfErr result IsOutOfMemory }
     {
         let mut text = Vec::new(a);
-        append_compact(&mut text, self.nodes())?;
+        append_compact_within(&mut text, self.nodes(), &mut Vec::new(a))?;
         Ok(unsafe { String::from_utf8_unchecked(text) })
     }
 
@@ -65,17 +67,20 @@ impl Value<'_, '_> {
     ///     tape.as_value().encode_pp(rt.alloc())
     /// }
     /// ```
-    pub fn encode_pp<A: Allocator>(&self, a: A) -> Result<String<A>>
+    pub fn encode_pp<A: Allocator + Copy>(&self, a: A) -> Result<String<A>>
         ensures text { IfOk result (λ text. string_bytes text ≡ pretty (doc self.now)) }
         ensures denoted { IfOk result (λ text. DenotesEqual (string_bytes text) (doc self.now)) }
         ensures fault { IfErr result IsOutOfMemory }
     {
         let mut text = Vec::new(a);
-        append_pretty(&mut text, self.nodes())?;
+        append_pretty_within(&mut text, self.nodes(), &mut Vec::new(a))?;
         Ok(unsafe { String::from_utf8_unchecked(text) })
     }
 
-    /// Writes the text of [`encode`](Value::encode). Allocates nothing, and takes as much stack.
+    /// Writes the text of [`encode`](Value::encode). Allocates nothing.
+    ///
+    /// Each open container takes about 11 bytes of the stack while it is printed, so 8 MB are
+    /// enough for 780,000 nested arrays. The depth limit of the parse bounds their number.
     ///
     /// Returns the writer's first error, also `Interrupted`, or one of kind `WriteZero` if the
     /// writer takes 0 bytes of a non-empty buffer. What was written by then is a prefix of the
@@ -102,7 +107,7 @@ impl Value<'_, '_> {
     }
 
     /// Writes the text of [`encode_pp`](Value::encode_pp). Allocates nothing, and takes as much
-    /// stack as [`encode`](Value::encode).
+    /// stack as [`write`](Value::write).
     ///
     /// The errors are those of [`write`](Value::write), and leave a prefix of this text.
     ///

@@ -1,10 +1,9 @@
-use Rattle.std.proofs.Common.{◌≡◌, ◌∙◌, ◌+◌, ◌++◌, ◌<◌, [], refl, ap, ◌≤◌, map, length, not, nat_eq, arith, rules}
+use Rattle.std.proofs.Common.{◌+◌, ◌++◌, ◌<◌, [], refl, ap, ◌≤◌, map, length, not, nat_eq, arith, rules}
 use Rattle.std.proofs.lemmas.List.{length-map}
 use Rattle.simd_json_parts.specs.Nodes.{item_of}
 use Rattle.simd_json_parts.specs.Printed.{text}
-use Rattle.simd_json_print.specs.Texts.{Adds}
 use Rattle.simd_json_print.proofs.Nestings.{begins, at-value, apart-step, apart-less, some-beneath}
-use Rattle.simd_json_print.proofs.Texts.{adds-none, adds-some, adds-then, some-none, some-then}
+use Rattle.simd_json_print.proofs.Texts.{adds-none, adds-then, some-none, some-then}
 use Rattle.simd_json_print.proofs.document.walk.+value.Goals as goal
 
 pub put_value_within-loop-nesting-init : goal.put_value_within-loop-nesting-init
@@ -56,8 +55,8 @@ put_value_within-loop-nesting-preserved g t c =
     let first = c.split_at.result.0.now in
     let rest = c.split_at.result.1.now in
     let others : length v.result.1.now ≤ length ns = omega (arith, v.ensures.back_len) in (
-      omega (arith, u.ensures.nested, f.ensures.nested, ap length u.ensures.levels),
-      omega (arith, ap length u.ensures.levels, f.ensures.levels, l.invariant.1),
+      omega (arith, u.ensures.nested, f.ensures.nested, ap (λ r. length r.now) u.ensures.levels),
+      omega (arith, ap (λ r. length r.now) u.ensures.levels, f.ensures.levels, l.invariant.1),
       omega (arith, u.ensures.nested, u.ensures.within, others, f.ensures.room, l.invariant.2),
       some-then _ _ _ _ l.invariant.3 (some-then _ _ _ _ f.ensures.kept (some-then _ _ _ _ c.put_value.ensures.kept u.ensures.kept)),
       λ d is.

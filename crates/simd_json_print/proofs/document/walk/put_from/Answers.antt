@@ -1,8 +1,8 @@
 use Rattle.std.proofs.Common.{rules, arith, ap, sym, subst, refl, ◌∙◌, [], ◌++◌, append-nil, length, map, not, nat_eq}
 use Rattle.std.proofs.lemmas.List.{length-map}
 use Rattle.simd_json_parts.specs.Nodes.{item_of}
-use Rattle.simd_json_print.specs.Frames.{IsAtValue, IsDeep, IsNext}
-use Rattle.simd_json_print.specs.Texts.{Adds, AddsSome}
+use Rattle.simd_json_print.specs.Frames.{IsAtValue, IsNext}
+use Rattle.simd_json_print.specs.Texts.{Adds}
 use Rattle.simd_json_print.proofs.Nestings.{at-value, next-value, three}
 use Rattle.simd_json_print.proofs.Texts.{adds-none, adds-then, some-none, some-then}
 use Rattle.simd_json_print.proofs.document.walk.put_from.Goals as goal
@@ -24,6 +24,7 @@ loop-out-init g c =
             (subst (λ us. IsAtValue pretty c.args.depth levels count items us root) (sym (append-nil done)) is),
       ),
       omega arith,
+      refl,
     )
 
 pub loop-out-preserved : goal.loop-out-preserved
@@ -32,8 +33,8 @@ loop-out-preserved g c =
     let l = c.loop-out in
     let n = c.put_next-next in
     let u = c.put_up_to_value-value in (
-      omega (arith, u.ensures.nested, n.ensures.nested, ap length u.ensures.levels),
-      ap length u.ensures.levels ∙ n.ensures.levels ∙ l.invariant.1,
+      omega (arith, u.ensures.nested, n.ensures.nested, ap (λ r. length r.now) u.ensures.levels),
+      ap (λ r. length r.now) u.ensures.levels ∙ n.ensures.levels ∙ l.invariant.1,
       omega (arith, u.ensures.nested, u.ensures.within, n.ensures.room, l.invariant.2),
       some-then _ _ _ _ l.invariant.3 (some-then _ _ _ _ n.ensures.kept u.ensures.kept),
       λ done root is.
@@ -49,6 +50,7 @@ loop-out-preserved g c =
                 (three done so_far.0 next.0 after.0) after.2,
           ),
       (let shorter = n.ensures.shorter (search rules) in omega (arith, u.ensures.within, shorter, l.invariant.5)),
+      ap (λ r. r.ghost_name) u.ensures.levels ∙ n.ensures.same_levels ∙ l.invariant.6,
     )
 
 pub returns-then-next-clause-given : goal.returns-then-next-clause-given

@@ -16,7 +16,7 @@ invariant-loop-out g l =
     → IsAtValue pretty l.depth old.levels.now old.count (map item_of l.fn.value.nodes.now) done root
     → (more : List ℕ) × Adds g.T.Target.state l.fn.out l.out more
     × IsNext pretty l.depth new.levels.now new.count (map item_of l.value.nodes.now) (done ++ more) root)
-    × (length l.value.nodes.now ≤ length l.fn.value.nodes.now)
+    × (length l.value.nodes.now ≤ length l.fn.value.nodes.now) × (new.levels.ghost_name ≡ old.levels.ghost_name)
 
 abbrev pub decreases-loop-out : goal.decreases-loop-out
 decreases-loop-out g l = length l.value.nodes.now

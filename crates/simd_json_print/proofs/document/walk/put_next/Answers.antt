@@ -1,4 +1,4 @@
-use Rattle.std.proofs.Common.{rules, arith, ap, sym, refl, ◌≡◌, ◌∙◌, [], get_or, slice_set}
+use Rattle.std.proofs.Common.{rules, arith, ap, sym, refl, ◌≡◌, ◌∙◌, [], get_or}
 use Rattle.simd_json_parts.specs.Nodes.{item_of}
 use Rattle.simd_json_print.proofs.Nestings.{leaf-step, no-object, open-step}
 use Rattle.simd_json_print.proofs.Texts.{adds-none, some-none}

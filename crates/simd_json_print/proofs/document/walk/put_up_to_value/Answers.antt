@@ -1,11 +1,11 @@
-use Rattle.std.proofs.Common.{rules, arith, ap, sym, subst, refl, ◌≡◌, ◌∙◌, [], ◌∷◌, ◌++◌, ◌+◌, ◌-◌, append_assoc, cond, get_or, length, map}
-use Rattle.std.proofs.Common.{not, nat_eq, true, false}
+use Rattle.std.proofs.Common.{rules, arith, ap, sym, subst, refl, ◌≡◌, ◌∙◌, [], ◌∷◌, ◌++◌, ◌+◌, ◌-◌, append_assoc, cond, get_or, map}
+use Rattle.std.proofs.Common.{not, nat_eq, false}
 use Rattle.std.proofs.lemmas.List.{length-map}
 use Rattle.simd_json_parts.specs.Bytes.{right_brace, right_bracket}
 use Rattle.simd_json_parts.specs.Nodes.{item_of}
 use Rattle.simd_json_parts.specs.Printed.{line}
-use Rattle.simd_json_print.specs.Frames.{IsAtValue, IsBetween, IsNext, no_level, frames_text}
-use Rattle.simd_json_print.specs.Texts.{Adds, AddsSome}
+use Rattle.simd_json_print.specs.Frames.{IsAtValue, IsBetween, no_level, frames_text}
+use Rattle.simd_json_print.specs.Texts.{Adds}
 use Rattle.simd_json_print.proofs.Lines.{adds-a-line, adds-no-line}
 use Rattle.simd_json_print.proofs.Nestings.{after-end, ended, next-end, next-value, three, with-none}
 use Rattle.simd_json_print.proofs.Texts.{adds-none, adds-is, adds-then, adds-lost, adds-some, some-none, some-then}

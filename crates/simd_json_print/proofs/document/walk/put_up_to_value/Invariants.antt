@@ -10,7 +10,7 @@ invariant-loop-nesting g l =
     let pretty = not (nat_eq g.row.PRETTY 0) in
     let old = l.fn.nesting in
     let new = l.nesting in
-    (new.count ≤ old.count) × (new.levels.now ≡ old.levels.now) × (length l.left.nodes.now ≤ length l.nodes.nodes.now)
+    (new.count ≤ old.count) × (new.levels ≡ old.levels) × (length l.left.nodes.now ≤ length l.nodes.nodes.now)
     × AddsSome g.T.Target.state l.fn.out l.out
     × ((done : List ℕ) (root : Document)
     → IsBetween pretty l.depth old.levels.now old.count l.fn.is_first (map item_of l.nodes.nodes.now) done root

@@ -11,12 +11,12 @@ from_utf8_unchecked-requires g c =
     let self = c.args.self.now in
     let listed = ap (map item_of) c.nodes.ensures.nodes ∙ sym self.listed in
     utf8-encoded compact Denotes-compact self _
-    (c.in_ok-append_compact.ensures.appended (doc self) listed ∙ ap (λ xs. xs ++ compact (doc self)) c.new-text.ensures.items)
+    (c.in_ok-append_compact_within.ensures.appended (doc self) listed ∙ ap (λ xs. xs ++ compact (doc self)) c.new-text.ensures.items)
 
 pub returns-clause-denoted : goal.returns-clause-denoted
 returns-clause-denoted g c =
     let self = c.args.self.now in
     let listed = ap (map item_of) c.nodes.ensures.nodes ∙ sym self.listed in
     denoted-encoded compact Denotes-compact self _
-    (ap (λ v. v.items) c.from_utf8_unchecked.ensures.value ∙ c.in_ok-append_compact.ensures.appended (doc self) listed
+    (ap (λ v. v.items) c.from_utf8_unchecked.ensures.value ∙ c.in_ok-append_compact_within.ensures.appended (doc self) listed
     ∙ ap (λ xs. xs ++ compact (doc self)) c.new-text.ensures.items)
