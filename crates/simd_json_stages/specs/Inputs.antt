@@ -24,6 +24,10 @@ pub record Reads (b : List ℕ) (t : Input) (i : ℕ) : Type 0 where
   pub whole : IsTrue t.is_plain → IsShared b t.shared.now
   pub part : IsFalse t.is_plain → IsLent b t.rest.now t.at t.escapes i
 
+-- what can be read from one index on can be from a later one
+abbrev pub IsKept : (ℕ → Type 0) → Type 0
+IsKept reads = (i j : ℕ) → reads i → i ≤ j → reads j
+
 -- The string whose opening quote has index i is closed before an index, and no quote is between.
 pub record IsStringBefore (b : List ℕ) (i next : ℕ) : Type 0 where
   pub opening : byte_at b i ≡ quote
@@ -34,31 +38,31 @@ pub record IsStringBefore (b : List ℕ) (i next : ℕ) : Type 0 where
   pub last : (j : ℕ) → closing_quote b i ≤ j → j < next → byte_at b j ≡ quote → closing_quote b i ≡ j
   pub utf8 : IsUtf8 (drop i b)
 
--- ---- what a function that reads an input asks for
+-- ---- what a function that reads an input asks for, where `can_read b i` says that the input b can be read from index i on
 
 -- Some input can be read from index i on, and has `len` bytes there.
-pub record HasBytes (t : Input) (i len : ℕ) : Type 0 where
+pub record HasBytes (can_read : List ℕ → ℕ → Type 0) (i len : ℕ) : Type 0 where
   pub b : List ℕ
-  pub reads : Reads b t i
+  pub reads : can_read b i
   pub within : i + len ≤ length b
 
 -- they are a string of their own
-pub record HasString (t : Input) (i len : ℕ) : Type 0 where
-  pub bytes : HasBytes t i len
+pub record HasString (can_read : List ℕ → ℕ → Type 0) (i len : ℕ) : Type 0 where
+  pub bytes : HasBytes can_read i len
   pub utf8 : IsUtf8 (take len (drop i bytes.b))
 
 -- Some input can be read from index i on, where a string begins that is closed before an index.
-pub record HasQuoted (t : Input) (i next : ℕ) : Type 0 where
+pub record HasQuoted (can_read : List ℕ → ℕ → Type 0) (i next : ℕ) : Type 0 where
   pub b : List ℕ
-  pub reads : Reads b t i
+  pub reads : can_read b i
   pub string : IsStringBefore b i next
 
 -- it has no escape
-pub record HasPlain (t : Input) (i next : ℕ) : Type 0 where
-  pub quoted : HasQuoted t i next
+pub record HasPlain (can_read : List ℕ → ℕ → Type 0) (i next : ℕ) : Type 0 where
+  pub quoted : HasQuoted can_read i next
   pub plain : PlainFrom quoted.b i next
 
 -- the same, whatever the index is
-pub record HasQuotedSomewhere (t : Input) (i : ℕ) : Type 0 where
+pub record HasQuotedSomewhere (can_read : List ℕ → ℕ → Type 0) (i : ℕ) : Type 0 where
   pub next : ℕ
-  pub quoted : HasQuoted t i next
+  pub quoted : HasQuoted can_read i next

@@ -14,6 +14,7 @@ pub mod Stored
 -- The second stage.
 pub mod Inputs
 pub mod EscapesAhead
+pub mod ReadsLater
 pub mod Continued
 pub mod Building
 pub mod Progresses

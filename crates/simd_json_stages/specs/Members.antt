@@ -7,7 +7,6 @@ use Rattle.simd_json_stages.specs.Building.{closer, AtValue, AtName, AfterValue,
 use Rattle.simd_json_stages.specs.NodesEnough.{nodes_enough}
 use Rattle.simd_json_stages.specs.Progresses.{IsOnRoute, IsRead, IsBefore, IsAfter}
 use Rattle.simd_json_stages.specs.Rejections.{error_type}
-use Rattle.simd_json_stages.specs.Inputs.{Reads}
 use Rattle.simd_json_stages.specs.declared.stage2.machine.Machine.{Machine}
 use Rattle.simd_json_stages.specs.declared.stage2.progress.Route.{Route}
 use Rattle.simd_json_stages.specs.declared.stage2.stack.Container.{Container}
@@ -23,7 +22,6 @@ use Rattle.simd_json_stages.specs.declared.stage2.progress.NextMember.TheVariant
 use Rattle.simd_json_stages.specs.declared.stage2.progress.Step.{Step}
 use Rattle.simd_json_stages.specs.declared.stage2.progress.Step.TheVariants.{Opened, Read}
 use Rattle.simd_json_stages.specs.declared.stage2.progress.Progress.{Progress}
-use Rattle.simd_json_stages.specs.declared.stage2.input.Input.{Input}
 
 -- there is capacity for the nodes of the positions ps, and for a frame each
 pub record HasCapacity (ps : List ℕ) (limit : ℕ) (stack : List StackState) (capacity : ℕ) : Type 0 where
@@ -31,18 +29,18 @@ pub record HasCapacity (ps : List ℕ) (limit : ℕ) (stack : List StackState) (
   pub frame_capacity : min (length ps) limit ≤ length stack
 
 -- after a token, where the next one can be read if there is one
-pub record AfterToken (b : List ℕ) (r : Route) (t : Input) (p : Progress) : Type 0 where
+pub record AfterToken (b : List ℕ) (r : Route) (reads : ℕ → Type 0) (p : Progress) : Type 0 where
   pub on_route : IsOnRoute r.ends_closed b r.indexes.now
   pub read : IsRead b r.indexes.now p
-  pub input : p.read < length r.indexes.now → Reads b t (slice_index r.indexes.now p.read)
+  pub input : p.read < length r.indexes.now → reads (slice_index r.indexes.now p.read)
 
 -- at the opening quote of a string
-pub record AtString (b : List ℕ) (r : Route) (t : Input) (capacity written : ℕ) (p : Progress) : Type 0 where
+pub record AtString (b : List ℕ) (r : Route) (reads : ℕ → Type 0) (capacity written : ℕ) (p : Progress) : Type 0 where
   pub on_route : IsOnRoute r.ends_closed b r.indexes.now
   pub read : IsRead b r.indexes.now p
   pub token : Contains (tokens b) (record { index = p.at; form = form_at b p.at })
   pub opening : p.byte ≡ quote
-  pub input : Reads b t p.at
+  pub input : reads p.at
   pub room : written < capacity
 
 -- no token before this one is looked at again
@@ -50,13 +48,13 @@ abbrev pub IsFrom : ℕ → NextMember → Type 0
 IsFrom n (Next p kind) = n ≤ p.read
 IsFrom n End = Unit {0}
 
--- The state of the machine is its input and stack, and the nodes with their capacity.
-module _ (b : List ℕ) (r : Route) (m : Machine) (capacity : ℕ) (nodes : List Item) where
+-- The state of the machine is its stack, from which index on the input can be read, and the nodes with their capacity.
+module _ (b : List ℕ) (r : Route) (m : Machine) (reads : ℕ → Type 0) (capacity : ℕ) (nodes : List Item) where
   -- at the first token of a value
   pub record AtFirst (p : Progress) : Type 0 where
     pub on_route : IsOnRoute r.ends_closed b r.indexes.now
     pub capacities : HasCapacity r.indexes.now r.max_depth m.stack.now capacity
-    pub progress : IsBefore b r.indexes.now (Reads b m.input) (length nodes) p
+    pub progress : IsBefore b r.indexes.now reads (length nodes) p
     pub depth : p.depth ≤ r.max_depth
     pub value : AtValue b r.indexes.now r.max_depth m.stack.now nodes p
 
@@ -75,7 +73,7 @@ module _ (b : List ℕ) (r : Route) (m : Machine) (capacity : ℕ) (nodes : List
   pub record AtPair (p : Progress) (kind : FaultKind) : Type 0 where
     pub on_route : IsOnRoute r.ends_closed b r.indexes.now
     pub capacities : HasCapacity r.indexes.now r.max_depth m.stack.now capacity
-    pub progress : IsBefore b r.indexes.now (Reads b m.input) (length nodes) p
+    pub progress : IsBefore b r.indexes.now reads (length nodes) p
     pub depth : p.depth ≤ r.max_depth
     pub name : AtName b r.indexes.now r.max_depth (error_type kind) m.stack.now nodes p
 
@@ -83,7 +81,7 @@ module _ (b : List ℕ) (r : Route) (m : Machine) (capacity : ℕ) (nodes : List
   pub record AfterLast (p : Progress) : Type 0 where
     pub on_route : IsOnRoute r.ends_closed b r.indexes.now
     pub capacities : HasCapacity r.indexes.now r.max_depth m.stack.now capacity
-    pub progress : IsAfter b r.indexes.now (Reads b m.input) (length nodes) p
+    pub progress : IsAfter b r.indexes.now reads (length nodes) p
     pub depth : p.depth ≤ r.max_depth
     pub after : AfterValue b r.indexes.now r.max_depth m.stack.now nodes p
 

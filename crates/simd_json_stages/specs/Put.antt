@@ -11,33 +11,31 @@ use Rattle.simd_json_parts.specs.NumberAt.{number_at}
 use Rattle.simd_json_parts.specs.StringAt.{string_at}
 use Rattle.simd_json_parts.specs.Tokens.{Form, begin_array, begin_object, string_token, scalar, form_at}
 use Rattle.simd_json_stages.specs.Rejections.{error_type}
-use Rattle.simd_json_stages.specs.Inputs.{Reads}
 use Rattle.simd_json_stages.specs.declared.stage2.fault.Fault.{Fault}
 use Rattle.simd_json_stages.specs.declared.stage2.fault.FaultKind.TheVariants as kinds
 use Rattle.simd_json_stages.specs.declared.stage2.progress.Progress.{Progress}
-use Rattle.simd_json_stages.specs.declared.stage2.input.Input.{Input}
 
 -- what no call changes of a sink: its room, and what it borrows
 abbrev pub SameSink : {Sink Lender : Type 0} → (Sink → ℕ) → (Sink → Lender) → Sink → Sink → Type 0
 SameSink room lender old new = (room new ≡ room old) × (lender new ≡ lender old)
 
 -- at the first byte of a token, with room for a node
-pub record AtScalar (b : List ℕ) (t : Input) (capacity written : ℕ) (p : Progress) : Type 0 where
-  pub input : Reads b t p.at
+pub record AtScalar (b : List ℕ) (reads : ℕ → Type 0) (capacity written : ℕ) (p : Progress) : Type 0 where
+  pub input : reads p.at
   pub within : p.at < length b
   pub first : p.byte ≡ byte_at b p.at
   pub room : written < capacity
 
 -- which is no string, array or object
-pub record AtOther (b : List ℕ) (t : Input) (capacity written : ℕ) (p : Progress) : Type 0 where
-  pub at : AtScalar b t capacity written p
+pub record AtOther (b : List ℕ) (reads : ℕ → Type 0) (capacity written : ℕ) (p : Progress) : Type 0 where
+  pub at : AtScalar b reads capacity written p
   pub no_string : p.byte ≢ 34
   pub no_array : p.byte ≢ 91
   pub no_object : p.byte ≢ 123
 
 -- which is a number
-pub record AtNumber (b : List ℕ) (t : Input) (capacity written : ℕ) (p : Progress) : Type 0 where
-  pub at : AtScalar b t capacity written p
+pub record AtNumber (b : List ℕ) (reads : ℕ → Type 0) (capacity written : ℕ) (p : Progress) : Type 0 where
+  pub at : AtScalar b reads capacity written p
   pub form : form_at b p.at ≡ scalar (number_at b p.at)
 
 -- the string at index i is the next node, and what is after it can be read

@@ -6,19 +6,20 @@
 //!
 //! ```text
 //! build_tape           chooses one of three copies of the machine by the input
-//! └ build_copy         the root's first token, and then a loop round the next three
-//!   ├ next_member      closes containers, up to the next member or the end of the root
-//!   ├ elements         reads elements of an array   ┐ up to a container that opens
-//!   └ members          reads members of an object   ┘ in it, or to its end
-//!     ├ read_key       a key and its colon, in an object
-//!     ├ read_value     a scalar, or the opening bracket of a container
-//!     │ └ push_string, push_scalar, push_number, push_header    append a node to the sink
-//!     └ after_member   a comma, or the closing bracket: set_counts in the sink
+//! └ build_copy         joins the input and the sink to a builder
+//!   └ build            the root's first token, and then a loop round the next three
+//!     ├ next_member    closes containers, up to the next member or the end of the root
+//!     ├ elements       reads elements of an array   ┐ up to a container that opens
+//!     └ members        reads members of an object   ┘ in it, or to its end
+//!       ├ read_key     a key and its colon, in an object
+//!       ├ read_value   a scalar, or the opening bracket of a container
+//!       │ └ push_string, push_scalar, push_number, push_header    append a node to the sink
+//!       └ after_member a comma, or the closing bracket: set_counts in the sink
 //! ```
 //!
-//! Beside `machine`, `progress` holds how far it is, `stack` the open containers, `input` what it
-//! reads, `nodes` what it writes to, `scalar` the values of one node, and `fault` how it rejects a
-//! token.
+//! Beside `machine`, `progress` holds how far it is, `stack` the open containers, `builder` what it
+//! reads and writes: an `input`, and the sink of `nodes`. `scalar` reads the values of one node, and
+//! `fault` is how it rejects a token.
 //!
 //! Where it differs from simdjson: nodes go to a sink of the caller's choice, not to words of a
 //! tape; strings are not copied into a buffer, but shared with the input, and decoded in place if
@@ -33,6 +34,7 @@ ghost use Rattle.simd_json_stages.specs.Progresses.{IsForCopy};
 ghost use Rattle.simd_json_stages.specs.Rejections.{IsTokenFault};
 ghost use Rattle.simd_json_stages.specs.Scans.{IsScanOf};
 
+mod builder;
 mod fault;
 mod input;
 mod machine;

@@ -12,16 +12,14 @@ use Rattle.simd_json_parts.specs.TokensAlong.{tokens_along}
 use Rattle.simd_json_parts.specs.declared.error.ErrorType.{ErrorType}
 use Rattle.simd_json_parts.specs.Nodes.{Item}
 use Rattle.simd_json_stages.specs.Building.{AtValue, AtName}
-use Rattle.simd_json_stages.specs.Inputs.{Reads}
+use Rattle.simd_json_stages.specs.Inputs.{IsKept}
 use Rattle.simd_json_stages.specs.Members.{HasCapacity}
 use Rattle.simd_json_stages.specs.NodesEnough.{nodes_enough}
 use Rattle.simd_json_stages.specs.Progresses.{EndsClosed, IsRead, IsNext, IsBefore, IsAfter}
-use Rattle.simd_json_stages.specs.declared.stage2.input.Input.{Input}
 use Rattle.simd_json_stages.specs.declared.stage2.stack.Container.{Container}
 use Rattle.simd_json_stages.specs.Put.{IsStringPut, IsScalarPut}
 use Rattle.simd_json_stages.specs.declared.stage2.progress.Progress.{Progress}
 use Rattle.simd_json_stages.specs.declared.stage2.stack.StackState.{StackState}
-use Rattle.simd_json_stages.proofs.Machine.InputLaws.{reads-kept}
 use Rattle.simd_json_stages.proofs.Tokens.Places.{token, at-inside, position-inside, next-later, end-before_next, token-read}
 use Rattle.simd_json_stages.proofs.Tokens.TokenForms.{quotes}
 
@@ -141,28 +139,28 @@ module _ {b ps : List ℕ} {p : Progress} (e : ps ≡ positions b) where
   name-token at = token-along b ps e at.before p.at (drop p.read ps) at.along
 
   -- what can be read from the next position on can be from the one after it
-  pub next-ahead : {t : Input} {q : Progress} → IsNext b ps p q → Reads b t (get_or ps p.read 0) → q.read < length ps
-      → Reads b t (get_or ps q.read 0)
-  next-ahead {t} {q} n h more = reads-kept b t _ _ h (omega (arith, ap (λ (q : Progress). q.at) n.same, later b ps e q n.read more))
+  pub next-ahead : {reads : ℕ → Type 0} {q : Progress} → IsKept reads → IsNext b ps p q → reads (get_or ps p.read 0) → q.read < length ps
+      → reads (get_or ps q.read 0)
+  next-ahead {q = q} kept n h more = kept _ _ h (omega (arith, ap (λ (q : Progress). q.at) n.same, later b ps e q n.read more))
 
   -- what is after a string can be read from the next position on
-  pub string-ahead : {t : Input} {nodes nodes' : List Item} → IsRead b ps p → Contains (tokens b) (token b p.at) → p.byte ≡ 34
-      → IsStringPut b p.at nodes nodes' (Reads b t) → p.read < length ps → Reads b t (get_or ps p.read 0)
-  string-ahead {t} r c quote put more = reads-kept b t _ _ put.input (ends-before b ps e p put.end r c
+  pub string-ahead : {reads : ℕ → Type 0} {nodes nodes' : List Item} → IsKept reads → IsRead b ps p → Contains (tokens b) (token b p.at) → p.byte ≡ 34
+      → IsStringPut b p.at nodes nodes' reads → p.read < length ps → reads (get_or ps p.read 0)
+  string-ahead kept r c quote put more = kept _ _ put.input (ends-before b ps e p put.end r c
       (ap (form_end p.at) (quotes b p.at (sym r.first ∙ quote) ∙ ap string_token put.read)) more)
 
-  pub scalar-ahead : {t : Input} {nodes nodes' : List Item} → IsRead b ps p → Contains (tokens b) (token b p.at)
-      → IsScalarPut b p.at nodes nodes' (Reads b t) → p.read < length ps → Reads b t (get_or ps p.read 0)
-  scalar-ahead {t} r c put more =
+  pub scalar-ahead : {reads : ℕ → Type 0} {nodes nodes' : List Item} → IsKept reads → IsRead b ps p → Contains (tokens b) (token b p.at)
+      → IsScalarPut b p.at nodes nodes' reads → p.read < length ps → reads (get_or ps p.read 0)
+  scalar-ahead kept r c put more =
       elim put.input [
-        | inl early ↦ reads-kept b t _ _ early (omega (arith, later b ps e p r more))
-        | inr end ↦ reads-kept b t _ _ end (ends-before b ps e p put.end r c (ap (form_end p.at) put.read) more)
+        | inl early ↦ kept _ _ early (omega (arith, later b ps e p r more))
+        | inr end ↦ kept _ _ end (ends-before b ps e p put.end r c (ap (form_end p.at) put.read) more)
       ]
 
   -- after a value of one node
-  pub after-value : {t t' : Input} (nodes nodes' : List Item) (x : Item) → nodes' ≡ nodes ++ x ∷ []
-      → IsBefore b ps (Reads b t) (length nodes) p → (p.read < length ps → Reads b t' (get_or ps p.read 0))
-      → IsAfter b ps (Reads b t') (length nodes') (record p { len = p.len + 1 })
+  pub after-value : {reads reads' : ℕ → Type 0} (nodes nodes' : List Item) (x : Item) → nodes' ≡ nodes ++ x ∷ []
+      → IsBefore b ps reads (length nodes) p → (p.read < length ps → reads' (get_or ps p.read 0))
+      → IsAfter b ps reads' (length nodes') (record p { len = p.len + 1 })
   after-value nodes nodes' x put r ahead =
       let more = put-longer nodes nodes' x put in
       record {
@@ -174,13 +172,13 @@ module _ {b ps : List ℕ} {p : Progress} (e : ps ≡ positions b) where
       }
 
   -- after a first token that closes its container at once
-  pub after-first : {t : Input} {q : Progress} (nodes nodes' : List Item) (x : Item) → nodes' ≡ nodes ++ x ∷ []
-      → IsBefore b ps (Reads b t) (length nodes) p → IsNext b ps p q → IsAfter b ps (Reads b t) (length nodes')
-      (record q { len = q.len + 1 })
-  after-first {t} nodes nodes' x put r n =
+  pub after-first : {reads : ℕ → Type 0} {reads' : ℕ → Type 0} {q : Progress} (nodes nodes' : List Item) (x : Item) → nodes' ≡ nodes ++ x ∷ []
+      → IsKept reads' → ((i : ℕ) → reads i → reads' i) → IsBefore b ps reads (length nodes) p → IsNext b ps p q
+      → IsAfter b ps reads' (length nodes') (record q { len = q.len + 1 })
+  after-first {reads' = reads'} nodes nodes' x put kept still r n =
       let l : p.at < get_or ps p.read 0 = later b ps e p r.read n.more in
       let more = put-longer nodes nodes' x put in
-      subst (λ (q : Progress). IsAfter b ps (Reads b t) (length nodes') (record q { len = q.len + 1 })) (sym n.same)
+      subst (λ (q : Progress). IsAfter b ps reads' (length nodes') (record q { len = q.len + 1 })) (sym n.same)
       (let s : Progress = record p {
         read = p.read + 1;
         at = get_or ps p.read 0;
@@ -193,14 +191,15 @@ module _ {b ps : List ℕ} {p : Progress} (e : ps ≡ positions b) where
         few = omega (arith, r.few);
         deep = omega (arith, r.deep);
         len = omega (arith, r.len);
-        input = λ h. reads-kept b t _ _ r.input (omega (arith, later b ps e s read h));
+        input = λ h. kept _ _ (still _ r.input) (omega (arith, later b ps e s read h));
       })
 
   -- at the first token of a container that has members
-  pub before-first : {t : Input} {q : Progress} (c : Container) (nodes nodes' : List Item) (x : Item) → nodes' ≡ nodes ++ x ∷ []
-      → IsBefore b ps (Reads b t) (length nodes) p → IsNext b ps p q → IsBefore b ps (Reads b t) (length nodes')
+  pub before-first : {reads : ℕ → Type 0} {reads' : ℕ → Type 0} {q : Progress} (c : Container) (nodes nodes' : List Item) (x : Item)
+      → nodes' ≡ nodes ++ x ∷ [] → IsKept reads' → ((i : ℕ) → reads i → reads' i) → IsBefore b ps reads (length nodes) p
+      → IsNext b ps p q → IsBefore b ps reads' (length nodes')
       (record { read = q.read; at = q.at; byte = q.byte; depth = p.depth + 1; container = c; len = 0 })
-  before-first {t} c nodes nodes' x put r n =
+  before-first {reads' = reads'} c nodes nodes' x put kept still r n =
       let l : p.at < get_or ps p.read 0 = later b ps e p r.read n.more in
       let more = put-longer nodes nodes' x put in
       let opened : Progress → Progress = λ q. record {
@@ -211,11 +210,11 @@ module _ {b ps : List ℕ} {p : Progress} (e : ps ≡ positions b) where
         container = c;
         len = 0;
       } in
-      subst (λ (q : Progress). IsBefore b ps (Reads b t) (length nodes') (opened q)) (sym n.same)
+      subst (λ (q : Progress). IsBefore b ps reads' (length nodes') (opened q)) (sym n.same)
       (record {
         read = read-next r.read n.more refl refl refl;
         few = omega (arith, r.few);
         deep = omega (arith, r.deep);
         len = omega (arith, r.len);
-        input = reads-kept b t _ _ r.input (omega arith);
+        input = kept _ _ (still _ r.input) (omega arith);
       })

@@ -4,8 +4,7 @@ use Rattle.std.proofs.lemmas.Bool.{cases_lt}
 use Rattle.std.proofs.lemmas.List.{get_or_default, get_or_past, get_or-drop, drop-drop, length-drop}
 use Rattle.simd_json_parts.specs.Bytes.{byte_at}
 use Rattle.simd_json_stages.specs.EscapeBlocks.{blocks_in, backslash_blocks, listed_start}
-use Rattle.simd_json_stages.specs.EscapesAhead.{AreAhead, ArePassed, PlainFrom}
-use Rattle.simd_json_stages.specs.declared.stage2.input.Escapes.{Escapes}
+use Rattle.simd_json_stages.specs.EscapesAhead.{ArePassed, PlainFrom}
 use Rattle.simd_json_stages.proofs.Machine.BetweenBlocks.{plain-to_next}
 
 -- where a listed block begins
@@ -25,18 +24,6 @@ module _ (b : List ℕ) (at : ℕ) where
         within = omega arith;
         plain = λ j f t. plain-to_next b m more j (omega (arith, begins b blocks m a.blocks l)) (omega (arith, ap (listed_start b) next));
       }
-
--- further on it stays
-pub ahead-later : (b : List ℕ) (e : Escapes) (at : ℕ) → AreAhead b e at → (later : ℕ) → at ≤ later → AreAhead b e later
-ahead-later b e at a later l =
-    record {
-      passed = record {
-        blocks = a.passed.blocks;
-        within = a.passed.within;
-        plain = λ j f t. a.passed.plain j (omega arith) t;
-      };
-      plain = λ j f t. a.plain j (omega arith) t;
-    }
 
 -- If a test finds none among some bytes from an index on, none is ahead up to there: before that index lies no
 -- listed block.

@@ -13,18 +13,7 @@ use Rattle.simd_json_stages.specs.Inputs.{IsLent, IsStringBefore, Reads}
 use Rattle.simd_json_stages.specs.declared.stage2.input.Escapes.{Escapes}
 use Rattle.simd_json_stages.specs.declared.stage2.input.Input.{Input}
 use Rattle.simd_json_stages.proofs.Machine.BetweenBlocks.{plain-to_first}
-use Rattle.simd_json_stages.proofs.Machine.EscapesPassed.{ahead-later}
-
--- what can be read from one index on can be from a later one
-pub reads-kept : (b : List ℕ) (t : Input) (i j : ℕ) → Reads b t i → i ≤ j → Reads b t j
-reads-kept b t i j h l =
-    record {
-      fits = h.fits;
-      end = h.end;
-      whole = h.whole;
-      part = λ lent. let p : IsLent b t.rest.now t.at t.escapes i = h.part lent in
-          record { rest = p.rest; before = omega (arith, p.before); ahead = ahead-later b t.escapes i p.ahead j l };
-    }
+use Rattle.simd_json_stages.specs.ReadsLater.{ahead-later}
 
 -- what is lent is from an index on the input from there on
 pub lent-drop : {b rest : List ℕ} {at : ℕ} {escapes : Escapes} {i : ℕ} → IsLent b rest at escapes i → (j : ℕ) → at ≤ j

@@ -26,9 +26,8 @@ use Rattle.simd_json_parts.specs.declared.error.ErrorType.{ErrorType}
 use Rattle.simd_json_parts.specs.declared.error.ErrorType.TheVariants.{ExpectedTrue, ExpectedFalse, ExpectedNull, InvalidNumber}
 use Rattle.simd_json_parts.proofs.Patterns.Bytes.{All-Matches}
 use Rattle.simd_json_parts.proofs.Patterns.Sets.{matches-Matches, longest_prefix-le}
-use Rattle.simd_json_stages.specs.Inputs.{HasString, Reads}
+use Rattle.simd_json_stages.specs.Inputs.{HasString}
 use Rattle.simd_json_stages.specs.Put.{AtNumber, IsScalarPut, IsNoScalar}
-use Rattle.simd_json_stages.specs.declared.stage2.input.Input.{Input}
 use Rattle.simd_json_stages.specs.declared.stage2.progress.Progress.{Progress}
 use Rattle.simd_json_stages.specs.Rejections.{error_type, rejected_kind, number_rejection}
 use Rattle.simd_json_parts.specs.declared.node.StaticNode.{StaticNode}
@@ -115,26 +114,27 @@ pub decimal-here : (b : List ℕ) (i : ℕ) (literal : List ℕ) (end : ℕ) →
 decimal-here b i literal end l is = subst (FormHere b) is (form-here b i l)
 
 -- so its literal can be shared, and is put
-module _ {b : List ℕ} {t : Input} {capacity written : ℕ} {p : Progress} (given : AtNumber b t capacity written p) where
-  pub decimal-asked : (len : ℕ) → number_at b p.at ≡ Ok (decimal (take len (drop p.at b)), p.at + len) → HasString t p.at len
-  decimal-asked len is =
-      let here = decimal-here b p.at (take len (drop p.at b)) (p.at + len) (omega (arith, given.at.within)) (given.form ∙ ap scalar is) in
-      record { bytes = record { b = b; reads = given.at.input; within = here.1 }; utf8 = here.0 }
+module _ {b : List ℕ} (can_read : List ℕ → ℕ → Type 0) {capacity written : ℕ} {p : Progress} (given : AtNumber b (can_read b) capacity written p)
+  where
+    pub decimal-asked : (len : ℕ) → number_at b p.at ≡ Ok (decimal (take len (drop p.at b)), p.at + len) → HasString can_read p.at len
+    decimal-asked len is =
+        let here = decimal-here b p.at (take len (drop p.at b)) (p.at + len) (omega (arith, given.at.within)) (given.form ∙ ap scalar is) in
+        record { bytes = record { b = b; reads = given.at.input; within = here.1 }; utf8 = here.0 }
 
-  pub decimal-put : {t' : Input} {nodes nodes' : List Item} (len : ℕ) (literal : List ℕ)
-      → number_at b p.at ≡ Ok (decimal (take len (drop p.at b)), p.at + len) → literal ≡ take len (drop p.at b)
-      → nodes' ≡ nodes ++ decimal_item literal ∷ [] → Reads b t' (p.at + len) → IsScalarPut b p.at nodes nodes' (Reads b t')
-  decimal-put len literal is shared put input =
-      record {
-        document = decimal (take len (drop p.at b));
-        end = p.at + len;
-        node = decimal_item literal;
-        read = given.form ∙ ap scalar is;
-        listed = ap (λ bs. decimal_item bs ∷ []) (sym shared);
-        single = refl;
-        put = put;
-        input = inr input;
-      }
+    pub decimal-put : {reads : ℕ → Type 0} {nodes nodes' : List Item} (len : ℕ)
+        → number_at b p.at ≡ Ok (decimal (take len (drop p.at b)), p.at + len)
+        → nodes' ≡ nodes ++ decimal_item (take len (drop p.at b)) ∷ [] → reads (p.at + len) → IsScalarPut b p.at nodes nodes' reads
+    decimal-put len is put input =
+        record {
+          document = decimal (take len (drop p.at b));
+          end = p.at + len;
+          node = decimal_item (take len (drop p.at b));
+          read = given.form ∙ ap scalar is;
+          listed = refl;
+          single = refl;
+          put = put;
+          input = inr input;
+        }
 
 -- ---- a node of fixed size
 
@@ -144,9 +144,9 @@ static-single (object ms) s listed = cc listed
 static-single _ s listed = refl
 
 -- nothing is split off before it
-pub static-put : {b : List ℕ} {i : ℕ} {nodes nodes' : List Item} {t : Input} (d : Document) (s : StaticNode) (end : ℕ) → Reads b t i
+pub static-put : {b : List ℕ} {i : ℕ} {nodes nodes' : List Item} {reads : ℕ → Type 0} (d : Document) (s : StaticNode) (end : ℕ) → reads i
     → form_at b i ≡ scalar (Ok (d, end)) → listing d ≡ static_item s ∷ [] → nodes' ≡ nodes ++ static_item s ∷ []
-    → IsScalarPut b i nodes nodes' (Reads b t)
+    → IsScalarPut b i nodes nodes' reads
 static-put d s end input is listed put =
     record {
       document = d;

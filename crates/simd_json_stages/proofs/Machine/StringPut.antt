@@ -17,7 +17,6 @@ use Rattle.simd_json_stages.specs.Inputs.{IsStringBefore}
 use Rattle.simd_json_stages.specs.Progresses.{IsRead}
 use Rattle.simd_json_stages.specs.declared.stage2.progress.Progress.{Progress}
 use Rattle.simd_json_stages.specs.declared.stage2.progress.Route.{Route}
-use Rattle.simd_json_stages.specs.declared.stage2.input.Input.{Input}
 use Rattle.simd_json_stages.proofs.Tokens.Places.{token, at-position, at-inside, none-between, next-there, at-before_next, next-inside}
 use Rattle.simd_json_stages.proofs.Tokens.Places.{string-closed, string-utf8}
 
@@ -67,7 +66,7 @@ string_at-fault b i e h = string_read-fault (read_pieces 0 (slice_range b (suc i
 -- ---- the string at the last token
 
 -- as `push_string` is called, where `next` is the next position or the end of the input
-module _ {b : List ℕ} {r : Route} {t : Input} {capacity written : ℕ} {p : Progress} (at : AtString b r t capacity written p) where
+module _ {b : List ℕ} {r : Route} {reads : ℕ → Type 0} {capacity written : ℕ} {p : Progress} (at : AtString b r reads capacity written p) where
   none : input_fault b ≡ None
   none = at.on_route.whole
 
@@ -107,9 +106,9 @@ module _ {b : List ℕ} {r : Route} {t : Input} {capacity written : ℕ} {p : Pr
       ]
 
   -- its closing quote is the last one before that
-  pub string-before : {next : ℕ} → next ≡ get_or r.indexes.now p.read t.end → IsStringBefore b p.at next
-  string-before {next} is' =
-      let is : next ≡ get_or (positions b) p.read (length b) = is' ∙ ap (get_or r.indexes.now p.read) at.input.end
+  pub string-before : {next end : ℕ} → next ≡ get_or r.indexes.now p.read end → end ≡ length b → IsStringBefore b p.at next
+  string-before {next} is' whole =
+      let is : next ≡ get_or (positions b) p.read (length b) = is' ∙ ap (get_or r.indexes.now p.read) whole
       ∙ ap (λ ps. get_or ps p.read (length b)) at.on_route.positions in
       let there : Contains (positions b) next ⊎ (next ≡ length b) = subst (λ n. Contains (positions b) n ⊎ (n ≡ length b))
       (sym is) (next-there b p) in

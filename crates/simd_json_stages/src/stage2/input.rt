@@ -101,7 +101,7 @@ impl<'m, 'de> Input<'m, 'de> {
     // The byte at index i, which was not split off.
     #[inline(always)]
     pub(crate) fn byte(&self, i: usize) -> u8
-        requires { HasBytes self.now i 1 }
+        requires { HasBytes (λ b. Reads b self.now) i 1 }
         ensures { (b : List ℕ) → Reads b self.now i → result ≡ byte_at b i }
     {
         if self.is_plain {
@@ -113,7 +113,7 @@ impl<'m, 'de> Input<'m, 'de> {
     // All bytes from index i on.
     #[inline(always)]
     pub(crate) fn from(&self, i: usize) -> &[u8]
-        requires { HasBytes self.now i 0 }
+        requires { HasBytes (λ b. Reads b self.now) i 0 }
         ensures { (b : List ℕ) → Reads b self.now i → result.now ≡ drop i b }
     {
         if self.is_plain {
@@ -125,7 +125,7 @@ impl<'m, 'de> Input<'m, 'de> {
     // Returns the `len` bytes from index i on as a string, and splits off all up to its end.
     #[inline(always)]
     pub(crate) fn share(&mut self, i: usize, len: usize) -> &'de str
-        requires { HasString self.old i len }
+        requires { HasString (λ b. Reads b self.old) i len }
         ensures string { (b : List ℕ) → Reads b self.old i → result.now ≡ take len (drop i b) }
         ensures rest { (b : List ℕ) → Reads b self.old i → Reads b self.new (i + len) }
     {
@@ -163,7 +163,7 @@ impl<'m, 'de> Input<'m, 'de> {
     // escapes are dense, this finds the next one at less cost than the walk.
     #[inline(always)]
     pub(crate) fn may_have_escape(&mut self, at: usize, end: usize) -> bool
-        requires { HasBytes self.old at 0 }
+        requires { HasBytes (λ b. Reads b self.old) at 0 }
         ensures reads { (b : List ℕ) → Reads b self.old at → Reads b self.new at }
         ensures plain { IsFalse result → (b : List ℕ) → Reads b self.old at → PlainFrom b at end }
         ensures lent { IsTrue result → IsFalse self.new.is_plain }
@@ -189,7 +189,7 @@ impl<'m, 'de> Input<'m, 'de> {
     #[inline(always)]
     fn escapes_from(&self, at: usize) -> Escapes<'m>
         requires lent { IsFalse self.now.is_plain }
-        requires bytes { HasBytes self.now at 0 }
+        requires bytes { HasBytes (λ b. Reads b self.now) at 0 }
         ensures { (b : List ℕ) → Reads b self.now at → AreAhead b result at }
     {
         let Escapes { blocks, next, .. } = self.escapes;
@@ -203,7 +203,7 @@ impl<'m, 'de> Input<'m, 'de> {
     // slower.
     #[inline(always)]
     fn last_quote(&self, at: usize, end: usize) -> usize
-        requires { HasQuoted self.now at end }
+        requires { HasQuoted (λ b. Reads b self.now) at end }
         ensures { (b : List ℕ) → Reads b self.now at → IsStringBefore b at end
             → result ≡ closing_quote b at }
     {
@@ -221,7 +221,7 @@ impl<'m, 'de> Input<'m, 'de> {
     // before index `end` closes it, so its bytes are not read.
     #[inline(always)]
     pub(crate) fn share_string(&mut self, at: usize, end: usize) -> &'de str
-        requires { HasPlain self.old at end }
+        requires { HasPlain (λ b. Reads b self.old) at end }
         ensures { (b : List ℕ) → Reads b self.old at → IsStringBefore b at end → PlainFrom b at end
             → (string_at b at ≡ Ok (result.now, suc (closing_quote b at)))
             × Reads b self.new (suc (closing_quote b at)) }
@@ -236,7 +236,7 @@ impl<'m, 'de> Input<'m, 'de> {
     #[inline(always)]
     pub(crate) fn parse_string(&mut self, at: usize) -> Result<&'de str, BadEscape>
         requires lent { IsFalse self.old.is_plain }
-        requires quoted { HasQuotedSomewhere self.old at }
+        requires quoted { HasQuotedSomewhere (λ b. Reads b self.old) at }
         ensures { (b : List ℕ) (end : ℕ) → Reads b self.old at → IsStringBefore b at end
             → MatchResult result
             (λ string. (string_at b at ≡ Ok (string.now, suc (closing_quote b at)))

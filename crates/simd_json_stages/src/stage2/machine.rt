@@ -16,11 +16,12 @@ ghost use Rattle.simd_json_stages.specs.Members.{AfterMember, AtElement, AtFirst
 ghost use Rattle.simd_json_stages.specs.Members.{AtPair, HasCapacity, HasCome, HasFollowed};
 ghost use Rattle.simd_json_stages.specs.Members.{IsAtMember, IsFault, IsFrom, IsTape};
 ghost use Rattle.simd_json_stages.specs.Progresses.{AdvancesPastMember, AdvancesPastValue};
-ghost use Rattle.simd_json_stages.specs.Progresses.{IsForCopy, reached};
+ghost use Rattle.simd_json_stages.specs.Progresses.{IsForCopy, IsOnRoute, reached};
 ghost use Rattle.simd_json_stages.specs.Put.{SameSink};
 ghost use Rattle.simd_json_stages.specs.Scans.{IsScanOf};
 
 use super::Scanned;
+use super::builder::{Builder, Sharing};
 use super::fault::{Fault, FaultKind};
 use super::input::{Input, Original};
 use super::nodes::NodeSink;
@@ -29,34 +30,33 @@ use super::scalar::{push_scalar, push_string};
 use super::stack::{Container, StackState, close};
 use std::result::Result;
 
-// What the machine changes besides the sink. That is passed beside it, since the prover can't
-// follow, through a struct, a list of values that share the input. All functions that take the
-// machine are inlined, so that its fields stay in registers.
+// What the machine changes besides the builder. All functions that take the machine are inlined, so
+// that its fields stay in registers.
 #[derive(Drop)]
-pub(crate) struct Machine<'m, 'de> {
-    // what is left of the input
-    pub(crate) input: Input<'m, 'de>,
+pub(crate) struct Machine<'m> {
     // the open containers: the first `depth` entries (see `Progress`) are in use
     pub(crate) stack: &'m mut [StackState],
 }
 
-impl<'de> Machine<'_, 'de> {
+impl Machine<'_> {
     // Appends the key at the last token, reads its colon, and goes on to the first token of the
     // value. If the last token is not a string, the fault is of this kind.
     #[inline(always)]
-    fn read_key<K: Original, S: NodeSink<'de>>(
+    fn read_key<K: Original, B: Builder>(
         &mut self,
         route: Route,
-        nodes: &mut S,
+        builder: &mut B,
         p: Progress,
         kind: FaultKind,
     ) -> Result<Progress, Fault>
-        requires { AtPair K.bytes route self.old (S.node_room nodes.old)
-            (S.held_nodes nodes.old) p kind }
-        ensures sink { SameSink S.node_room S.lender nodes.old nodes.new }
+        requires { AtPair K.bytes route self.old (B.reads K.bytes builder.old)
+            (B.node_room builder.old)
+            (B.held_nodes builder.old) p kind }
+        ensures sink { SameSink B.node_room B.lender builder.old builder.new }
         ensures stack { self.new.stack ≡ self.old.stack }
         ensures value { IfOk result (AtFirst K.bytes route.entry self.new
-            (S.node_room nodes.new) (S.held_nodes nodes.new)) }
+            (B.reads K.bytes builder.new)
+            (B.node_room builder.new) (B.held_nodes builder.new)) }
         ensures advances { IfOk result (λ q. (p.read < q.read) × (q.depth ≡ p.depth)
             × (q.container ≡ p.container)) }
         ensures rejected { IfErr result (IsFault K.bytes route.entry) }
@@ -64,12 +64,12 @@ impl<'de> Machine<'_, 'de> {
         if p.byte != b'"' {
             return Err(p.fault(kind));
         }
-        push_string::<K, S>(&mut self.input, route, nodes, p)?;
-        let colon = p.next_token(&self.input, route)?;
+        push_string::<K, B>(builder, route, p)?;
+        let colon = p.next_token::<K, B>(builder, route)?;
         if colon.byte != b':' {
             return Err(colon.fault(FaultKind::ExpectedObjectColon));
         }
-        let value = colon.next_token(&self.input, route)?;
+        let value = colon.next_token::<K, B>(builder, route)?;
         Ok(value)
     }
 
@@ -77,39 +77,41 @@ impl<'de> Machine<'_, 'de> {
     // once, as the next token shows, and takes no entry of the stack.
     #[inline(always)]
     #[tactic(auto, unfolding(crate::specs::NodesEnough::nodes_enough))]
-    fn open<K: Original, S: NodeSink<'de>>(
+    fn open<K: Original, B: Builder>(
         &mut self,
         route: Route,
-        nodes: &mut S,
+        builder: &mut B,
         p: Progress,
         container: Container,
     ) -> Result<Step, Fault>
-        requires { AtOpening K.bytes route self.old (S.node_room nodes.old)
-            (S.held_nodes nodes.old) p container }
-        ensures sink { SameSink S.node_room S.lender nodes.old nodes.new }
+        requires { AtOpening K.bytes route self.old (B.reads K.bytes builder.old)
+            (B.node_room builder.old)
+            (B.held_nodes builder.old) p container }
+        ensures sink { SameSink B.node_room B.lender builder.old builder.new }
         ensures stack { length self.new.stack.now ≡ length self.old.stack.now }
         ensures came { IfOk result (HasCome K.bytes route.entry self.new
-            (S.node_room nodes.new) (S.held_nodes nodes.new)) }
+            (B.reads K.bytes builder.new)
+            (B.node_room builder.new) (B.held_nodes builder.new)) }
         ensures advances { IfOk result (AdvancesPastValue p) }
         ensures rejected { IfErr result (IsFault K.bytes route.entry) }
     {
         if p.depth == route.max_depth {
             return Err(p.fault(FaultKind::DepthLimitExceeded));
         }
-        let q = p.next_token(&self.input, route)?;
+        let q = p.next_token::<K, B>(builder, route)?;
         if q.byte == container.closer() {
-            nodes.push_header(container);
+            builder.push_header(container);
             return Ok(Step::Read(Progress {
                 len: q.len + 1,
                 ..q
             }));
         }
         self.stack[p.depth] = StackState {
-            header: nodes.len(),
+            header: builder.len(),
             outer: p.container,
             len: p.len,
         };
-        nodes.push_header(container);
+        builder.push_header(container);
         Ok(Step::Opened(Progress {
             depth: p.depth + 1,
             container,
@@ -121,31 +123,33 @@ impl<'de> Machine<'_, 'de> {
     // Reads the value whose first token is the last one: a scalar whole, a container up to its
     // first member.
     #[inline(always)]
-    fn read_value<K: Original, S: NodeSink<'de>>(
+    fn read_value<K: Original, B: Builder>(
         &mut self,
         route: Route,
-        nodes: &mut S,
+        builder: &mut B,
         p: Progress,
     ) -> Result<Step, Fault>
-        requires { AtFirst K.bytes route self.old (S.node_room nodes.old)
-            (S.held_nodes nodes.old) p }
-        ensures sink { SameSink S.node_room S.lender nodes.old nodes.new }
+        requires { AtFirst K.bytes route self.old (B.reads K.bytes builder.old)
+            (B.node_room builder.old)
+            (B.held_nodes builder.old) p }
+        ensures sink { SameSink B.node_room B.lender builder.old builder.new }
         ensures stack { length self.new.stack.now ≡ length self.old.stack.now }
         ensures came { IfOk result (HasCome K.bytes route.entry self.new
-            (S.node_room nodes.new) (S.held_nodes nodes.new)) }
+            (B.reads K.bytes builder.new)
+            (B.node_room builder.new) (B.held_nodes builder.new)) }
         ensures advances { IfOk result (AdvancesPastValue p) }
         ensures rejected { IfErr result (IsFault K.bytes route.entry) }
     {
         if p.byte == b'{' {
-            return self.open::<K, S>(route, nodes, p, Container::Object);
+            return self.open::<K, B>(route, builder, p, Container::Object);
         }
         if p.byte == b'[' {
-            return self.open::<K, S>(route, nodes, p, Container::Array);
+            return self.open::<K, B>(route, builder, p, Container::Array);
         }
         if p.byte == b'"' {
-            push_string::<K, S>(&mut self.input, route, nodes, p)?;
+            push_string::<K, B>(builder, route, p)?;
         } else {
-            push_scalar::<K, S>(&mut self.input, nodes, p)?;
+            push_scalar::<K, B>(builder, p)?;
         }
         Ok(Step::Read(Progress {
             len: p.len + 1,
@@ -156,45 +160,49 @@ impl<'de> Machine<'_, 'de> {
     // Reads on after a member of a container of this kind: a comma and the first token of the next
     // member, or the closing bracket.
     #[inline(always)]
-    fn after_member<K: Original, S: NodeSink<'de>>(
+    fn after_member<K: Original, B: Builder>(
         &self,
         route: Route,
-        nodes: &mut S,
+        builder: &mut B,
         p: Progress,
         container: Container,
     ) -> Result<Following, Fault>
-        requires { AfterMember K.bytes route self.now (S.node_room nodes.old)
-            (S.held_nodes nodes.old) p container }
-        ensures sink { SameSink S.node_room S.lender nodes.old nodes.new }
+        requires { AfterMember K.bytes route self.now (B.reads K.bytes builder.old)
+            (B.node_room builder.old)
+            (B.held_nodes builder.old) p container }
+        ensures sink { SameSink B.node_room B.lender builder.old builder.new }
         ensures advances { IfOk result (AdvancesPastMember p) }
         ensures followed { IfOk result (HasFollowed K.bytes route.entry self.now
-            (S.node_room nodes.new) (S.held_nodes nodes.new)) }
+            (B.reads K.bytes builder.new)
+            (B.node_room builder.new) (B.held_nodes builder.new)) }
         ensures rejected { IfErr result (IsFault K.bytes route.entry) }
     {
-        let q = p.next_token(&self.input, route)?;
+        let q = p.next_token::<K, B>(builder, route)?;
         if q.byte == b',' {
-            return Ok(Following::Next(q.next_token(&self.input, route)?));
+            return Ok(Following::Next(q.next_token::<K, B>(builder, route)?));
         }
         if q.byte != container.closer() {
             return Err(q.fault(container.content_kind()));
         }
-        Ok(Following::Closed(close(self.stack, nodes, q, container)))
+        Ok(Following::Closed(close(self.stack, builder, q, container)))
     }
 
     // Closes containers up to the next comma and reads the token after it, or reports the end of
     // the root. Does nothing in a container that was just opened.
     #[inline(always)]
-    fn next_member<K: Original, S: NodeSink<'de>>(
+    fn next_member<K: Original, B: Builder>(
         &self,
         route: Route,
-        nodes: &mut S,
+        builder: &mut B,
         value: Step,
     ) -> Result<NextMember, Fault>
-        requires { HasCome K.bytes route self.now (S.node_room nodes.old)
-            (S.held_nodes nodes.old) value }
-        ensures sink { SameSink S.node_room S.lender nodes.old nodes.new }
+        requires { HasCome K.bytes route self.now (B.reads K.bytes builder.old)
+            (B.node_room builder.old)
+            (B.held_nodes builder.old) value }
+        ensures sink { SameSink B.node_room B.lender builder.old builder.new }
         ensures member { IfOk result (IsAtMember K.bytes route.entry self.now
-            (S.node_room nodes.new) (S.held_nodes nodes.new)) }
+            (B.reads K.bytes builder.new)
+            (B.node_room builder.new) (B.held_nodes builder.new)) }
         ensures further { IfOk result (IsFrom (reached value).read) }
         ensures rejected { IfErr result (IsFault K.bytes route.entry) }
     {
@@ -203,7 +211,7 @@ impl<'de> Machine<'_, 'de> {
             Step::Read(p) => p,
         };
         while p.depth > 0 {
-            match self.after_member::<K, S>(route, nodes, p, p.container)? {
+            match self.after_member::<K, B>(route, builder, p, p.container)? {
                 Following::Next(next) => {
                     return Ok(NextMember::Next(next, FaultKind::ExpectedObjectKey));
                 }
@@ -222,27 +230,29 @@ impl<'de> Machine<'_, 'de> {
     // Reads the elements of an array, from the first token of one on, up to a container that opens
     // in it or to its end.
     #[inline(always)]
-    fn elements<K: Original, S: NodeSink<'de>, const COPY: usize>(
+    fn elements<K: Original, B: Builder, const COPY: usize>(
         &mut self,
         route: Route,
-        nodes: &mut S,
+        builder: &mut B,
         first: Progress,
     ) -> Result<Step, Fault>
-        requires { AtElement K.bytes route self.old (S.node_room nodes.old)
-            (S.held_nodes nodes.old) first }
-        ensures sink { SameSink S.node_room S.lender nodes.old nodes.new }
+        requires { AtElement K.bytes route self.old (B.reads K.bytes builder.old)
+            (B.node_room builder.old)
+            (B.held_nodes builder.old) first }
+        ensures sink { SameSink B.node_room B.lender builder.old builder.new }
         ensures stack { length self.new.stack.now ≡ length self.old.stack.now }
         ensures came { IfOk result (HasCome K.bytes route.entry self.new
-            (S.node_room nodes.new) (S.held_nodes nodes.new)) }
+            (B.reads K.bytes builder.new)
+            (B.node_room builder.new) (B.held_nodes builder.new)) }
         ensures further { IfOk result (λ value. first.read < (reached value).read) }
         ensures rejected { IfErr result (IsFault K.bytes route.entry) }
     {
         let mut p = first;
         'values: loop {
-            match self.read_value::<K, S>(route, nodes, p)? {
+            match self.read_value::<K, B>(route, builder, p)? {
                 Step::Opened(opened) => return Ok(Step::Opened(opened)),
                 Step::Read(read) => {
-                    match self.after_member::<K, S>(route, nodes, read, Container::Array)? {
+                    match self.after_member::<K, B>(route, builder, read, Container::Array)? {
                         Following::Next(next) => p = next,
                         Following::Closed(closed) => return Ok(Step::Read(closed)),
                     }
@@ -253,30 +263,32 @@ impl<'de> Machine<'_, 'de> {
 
     // Reads the members of an object, likewise. If the first has no key, the fault is of this kind.
     #[inline(always)]
-    fn members<K: Original, S: NodeSink<'de>, const COPY: usize>(
+    fn members<K: Original, B: Builder, const COPY: usize>(
         &mut self,
         route: Route,
-        nodes: &mut S,
+        builder: &mut B,
         first: Progress,
         kind: FaultKind,
     ) -> Result<Step, Fault>
-        requires { AtPair K.bytes route self.old (S.node_room nodes.old)
-            (S.held_nodes nodes.old) first kind }
-        ensures sink { SameSink S.node_room S.lender nodes.old nodes.new }
+        requires { AtPair K.bytes route self.old (B.reads K.bytes builder.old)
+            (B.node_room builder.old)
+            (B.held_nodes builder.old) first kind }
+        ensures sink { SameSink B.node_room B.lender builder.old builder.new }
         ensures stack { length self.new.stack.now ≡ length self.old.stack.now }
         ensures came { IfOk result (HasCome K.bytes route.entry self.new
-            (S.node_room nodes.new) (S.held_nodes nodes.new)) }
+            (B.reads K.bytes builder.new)
+            (B.node_room builder.new) (B.held_nodes builder.new)) }
         ensures further { IfOk result (λ value. first.read < (reached value).read) }
         ensures rejected { IfErr result (IsFault K.bytes route.entry) }
     {
         let mut p = first;
         let mut kind = kind;
         'pairs: loop {
-            let value = self.read_key::<K, S>(route, nodes, p, kind)?;
-            match self.read_value::<K, S>(route, nodes, value)? {
+            let value = self.read_key::<K, B>(route, builder, p, kind)?;
+            match self.read_value::<K, B>(route, builder, value)? {
                 Step::Opened(opened) => return Ok(Step::Opened(opened)),
                 Step::Read(read) => {
-                    match self.after_member::<K, S>(route, nodes, read, Container::Object)? {
+                    match self.after_member::<K, B>(route, builder, read, Container::Object)? {
                         Following::Next(next) => p = next,
                         Following::Closed(closed) => return Ok(Step::Read(closed)),
                     }
@@ -299,8 +311,8 @@ pub(super) const CLOSED: usize = 1;
 // Any other input, such as a scalar by itself.
 pub(super) const ANY: usize = 2;
 
-// Appends the nodes of the tokens at the structural indexes, from the root's first token on, by the
-// copy of the machine with number `COPY`.
+// Appends the nodes of the tokens at the structural indexes to a sink, from the root's first token
+// on, by the copy of the machine with number `COPY`.
 #[inline(always)]
 pub(super) fn build_copy<'de, K: Original, S: NodeSink<'de>, const COPY: usize>(
     input: &'de mut [u8],
@@ -319,32 +331,55 @@ pub(super) fn build_copy<'de, K: Original, S: NodeSink<'de>, const COPY: usize>(
     ensures tape { IsTape K.bytes scanned.entry.structural_indexes.now max_depth
         (S.held_nodes nodes.new) result }
 {
-    let input = if COPY == PLAIN {
+    let mut input = if COPY == PLAIN {
         Input::plain(input)
     } else {
         Input::with_escapes(input, scanned.escape_blocks)
     };
-    let mut machine = Machine { input, stack };
+    let mut sharing = Sharing {
+        input: &mut input,
+        nodes,
+    };
     let route = Route {
         indexes: scanned.structural_indexes,
         ends_closed: COPY != ANY,
         max_depth,
     };
+    build::<K, Sharing<'_, '_, '_, 'de, S>, COPY>(&mut sharing, route, stack)
+}
+
+// Appends the nodes of all tokens, from the root's first token on.
+#[inline(always)]
+fn build<K: Original, B: Builder, const COPY: usize>(
+    builder: &mut B,
+    route: Route,
+    stack: &mut [StackState],
+) -> Result<(), Fault>
+    requires route { IsOnRoute route.ends_closed K.bytes route.indexes.now }
+    requires capacities { HasCapacity route.indexes.now route.max_depth stack.old
+        (B.node_room builder.old) }
+    requires empty { B.held_nodes builder.old ≡ [] }
+    requires reads { B.reads K.bytes builder.old 0 }
+    ensures sink { SameSink B.node_room B.lender builder.old builder.new }
+    ensures tape { IsTape K.bytes route.entry.indexes.now route.entry.max_depth
+        (B.held_nodes builder.new) result }
+{
+    let mut machine = Machine { stack };
     let at = route.indexes[0] as usize;
     let first = Progress {
         at,
-        byte: machine.input.byte(at),
+        byte: builder.byte(at),
         container: Container::Array,
         read: 1,
         depth: 0,
         len: 0,
     };
-    let mut value = machine.read_value::<K, S>(route, nodes, first)?;
+    let mut value = machine.read_value::<K, B>(route, builder, first)?;
     'values: loop {
-        value = match machine.next_member::<K, S>(route, nodes, value)? {
+        value = match machine.next_member::<K, B>(route, builder, value)? {
             NextMember::Next(p, kind) => match p.container {
-                Container::Array => machine.elements::<K, S, COPY>(route, nodes, p)?,
-                Container::Object => machine.members::<K, S, COPY>(route, nodes, p, kind)?,
+                Container::Array => machine.elements::<K, B, COPY>(route, builder, p)?,
+                Container::Object => machine.members::<K, B, COPY>(route, builder, p, kind)?,
             },
             NextMember::End => return Ok(()),
         };

@@ -4,15 +4,16 @@
 //! The last token is the one at the structural index that was read last. A token is known by its
 //! index and its first byte. The machine of simdjson's paper jumps from state to state by `goto`;
 //! here `Step`, `Following` and `NextMember` say where to go on.
-ghost use Rattle.std.specs.Prelude.{◌≡◌, ◌≢◌, ◌<◌, ◌≤◌, ◌+◌, ℕ, List, length, get_or};
+ghost use Rattle.std.specs.Prelude.{◌≡◌, ◌≢◌, ◌<◌, ◌≤◌, ◌+◌, length, get_or};
 ghost use Rattle.std.specs.Prelude.{IfOk, IfErr, IsTrue, IsFalse};
 ghost use Rattle.simd_json_parts.specs.Bytes.{byte_at};
 ghost use Rattle.simd_json_stages.specs.Building.{end_kind, is_closing};
 ghost use Rattle.simd_json_stages.specs.Members.{AfterToken};
 ghost use Rattle.simd_json_stages.specs.Progresses.{IsNext};
 
+use super::builder::Builder;
 use super::fault::{Fault, FaultKind};
-use super::input::Input;
+use super::input::Original;
 use super::stack::Container;
 use std::result::Result;
 
@@ -82,15 +83,18 @@ impl Progress {
 
     // Goes on to the next token. If none is left, the fault is `Syntax` at the last one.
     #[inline(always)]
-    pub(super) fn next_token(self, input: &Input, route: Route) -> Result<Progress, Fault>
-        ghost b: { List ℕ }
-        requires { AfterToken b route input.now self }
-        ensures next { IfOk result (IsNext b route.entry.indexes.now self) }
+    pub(super) fn next_token<K: Original, B: Builder>(
+        self,
+        builder: &B,
+        route: Route,
+    ) -> Result<Progress, Fault>
+        requires { AfterToken K.bytes route (B.reads K.bytes builder.now) self }
+        ensures next { IfOk result (IsNext K.bytes route.entry.indexes.now self) }
         ensures none { IfErr result (λ f. (self.read ≡ length route.entry.indexes.now)
             × (f ≡ record {
               kind = FaultKind.Syntax;
               index = self.at;
-              byte = byte_at b self.at;
+              byte = byte_at K.bytes self.at;
             })) }
     {
         if self.is_last(route.indexes, route.ends_closed) {
@@ -100,7 +104,7 @@ impl Progress {
         Ok(Progress {
             read: self.read + 1,
             at,
-            byte: input.byte(at),
+            byte: builder.byte(at),
             ..self
         })
     }

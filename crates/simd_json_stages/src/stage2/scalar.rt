@@ -22,11 +22,10 @@ ghost use Rattle.simd_json_stages.specs.Members.{AtString};
 ghost use Rattle.simd_json_stages.specs.Put.{is_boolean, AtNumber, AtOther, IsBadString};
 ghost use Rattle.simd_json_stages.specs.Put.{IsNoScalar, IsScalarPut, IsStringPut, SameSink};
 ghost use Rattle.simd_json_stages.specs.Rejections.{error_type, rejected_kind, number_rejection};
-ghost use Rattle.simd_json_stages.specs.Inputs.{Reads};
 
+use super::builder::Builder;
 use super::fault::{Fault, FaultKind};
-use super::input::{Input, Original};
-use super::nodes::NodeSink;
+use super::input::Original;
 use super::progress::{Progress, Route};
 use simd_json_parts::charutils::{byte_or_space, is_structural_or_whitespace};
 use simd_json_parts::node::StaticNode;
@@ -73,31 +72,24 @@ fn ends_at(bytes: &[u8], at: usize) -> bool
 // Appends the string at the last token. Only whitespace is between its closing quote and the next
 // structural index.
 #[inline(always)]
-pub(super) fn push_string<'de, K: Original, S: NodeSink<'de>>(
-    input: &mut Input<'_, 'de>,
+pub(super) fn push_string<K: Original, B: Builder>(
+    builder: &mut B,
     route: Route,
-    nodes: &mut S,
     p: Progress,
 ) -> Result<(), Fault>
-    requires { AtString K.bytes route input.old (S.node_room nodes.old)
-        (length (S.held_nodes nodes.old)) p }
-    ensures sink { SameSink S.node_room S.lender nodes.old nodes.new }
+    requires { AtString K.bytes route (B.reads K.bytes builder.old) (B.node_room builder.old)
+        (length (B.held_nodes builder.old)) p }
+    ensures sink { SameSink B.node_room B.lender builder.old builder.new }
     ensures put { OnOk result
-        (IsStringPut K.bytes p.at (S.held_nodes nodes.old) (S.held_nodes nodes.new)
-        (Reads K.bytes input.new)) }
+        (IsStringPut K.bytes p.at (B.held_nodes builder.old) (B.held_nodes builder.new)
+        (B.reads K.bytes builder.new)) }
     ensures rejected { IfErr result (IsBadString K.bytes p.at) }
 {
-    let next = route.position_or_end(p.read, input.end);
-    let may_have_escape = input.may_have_escape(p.at, next);
-    if !may_have_escape {
-        nodes.push_string(input.share_string(p.at, next));
-        return Ok(());
+    let next = route.position_or_end(p.read, builder.end());
+    match builder.push_string(p.at, next) {
+        Ok(()) => Ok(()),
+        Err(bad) => Err(bad_escape(p.at, bad)),
     }
-    match input.parse_string(p.at) {
-        Ok(string) => nodes.push_string(string),
-        Err(bad) => return Err(bad_escape(p.at, bad)),
-    }
-    Ok(())
 }
 
 // The fault of a bad escape in the string whose opening quote has index `at`.
@@ -122,32 +114,31 @@ fn bad_escape(at: usize, bad: BadEscape) -> Fault
 // Appends the scalar at the last token, which is not a string. Each kind has a branch that stores
 // its own node: a node that is chosen by branches and then stored is copied field by field.
 #[inline(always)]
-pub(super) fn push_scalar<'de, K: Original, S: NodeSink<'de>>(
-    input: &mut Input<'_, 'de>,
-    nodes: &mut S,
+pub(super) fn push_scalar<K: Original, B: Builder>(
+    builder: &mut B,
     p: Progress,
 ) -> Result<(), Fault>
-    requires { AtOther K.bytes input.old (S.node_room nodes.old)
-        (length (S.held_nodes nodes.old)) p }
-    ensures sink { SameSink S.node_room S.lender nodes.old nodes.new }
+    requires { AtOther K.bytes (B.reads K.bytes builder.old) (B.node_room builder.old)
+        (length (B.held_nodes builder.old)) p }
+    ensures sink { SameSink B.node_room B.lender builder.old builder.new }
     ensures put { OnOk result
-        (IsScalarPut K.bytes p.at (S.held_nodes nodes.old) (S.held_nodes nodes.new)
-        (Reads K.bytes input.new)) }
+        (IsScalarPut K.bytes p.at (B.held_nodes builder.old) (B.held_nodes builder.new)
+        (B.reads K.bytes builder.new)) }
     ensures rejected { IfErr result (IsNoScalar K.bytes p.at) }
 {
     if is_integer(p.byte) || p.byte == b'-' {
-        return push_number::<K, S>(input, nodes, p);
+        return push_number::<K, B>(builder, p);
     }
-    let rest = input.from(p.at);
+    let rest = builder.from(p.at);
     if p.byte == b'n' {
         if !is_valid_null_atom(rest) {
             return Err(no_scalar(p.at, p.byte));
         }
-        nodes.push_static(StaticNode::Null);
+        builder.push_static(StaticNode::Null);
         return Ok(());
     }
     match parse_boolean(rest) {
-        Some(value) => nodes.push_static(StaticNode::Bool(value)),
+        Some(value) => builder.push_static(StaticNode::Bool(value)),
         None => return Err(no_scalar(p.at, p.byte)),
     }
     Ok(())
@@ -219,20 +210,16 @@ fn no_scalar(at: usize, byte: u8) -> Fault
 // Appends the number at the last token. Each kind has a branch that stores its own node, as in
 // `push_scalar`.
 #[inline(always)]
-fn push_number<'de, K: Original, S: NodeSink<'de>>(
-    input: &mut Input<'_, 'de>,
-    nodes: &mut S,
-    p: Progress,
-) -> Result<(), Fault>
-    requires { AtNumber K.bytes input.old (S.node_room nodes.old)
-        (length (S.held_nodes nodes.old)) p }
-    ensures sink { SameSink S.node_room S.lender nodes.old nodes.new }
+fn push_number<K: Original, B: Builder>(builder: &mut B, p: Progress) -> Result<(), Fault>
+    requires { AtNumber K.bytes (B.reads K.bytes builder.old) (B.node_room builder.old)
+        (length (B.held_nodes builder.old)) p }
+    ensures sink { SameSink B.node_room B.lender builder.old builder.new }
     ensures put { OnOk result
-        (IsScalarPut K.bytes p.at (S.held_nodes nodes.old) (S.held_nodes nodes.new)
-        (Reads K.bytes input.new)) }
+        (IsScalarPut K.bytes p.at (B.held_nodes builder.old) (B.held_nodes builder.new)
+        (B.reads K.bytes builder.new)) }
     ensures rejected { IfErr result (IsNoScalar K.bytes p.at) }
 {
-    let rest = input.from(p.at);
+    let rest = builder.from(p.at);
     let numeral = match parse_short(rest) {
         Some(numeral) => numeral,
         None => parse_numeral(rest),
@@ -240,13 +227,16 @@ fn push_number<'de, K: Original, S: NodeSink<'de>>(
     match numeral {
         Numeral::Integer(magnitude) => {
             if p.byte == b'-' {
-                nodes.push_static(integer_node(true, magnitude));
+                builder.push_static(integer_node(true, magnitude));
             } else {
-                nodes.push_static(StaticNode::U64(magnitude));
+                builder.push_static(StaticNode::U64(magnitude));
             }
         }
-        Numeral::Decimal(len) => nodes.push_decimal(input.share(p.at, len)),
-        Numeral::Long(len) => nodes.push_static(read_long(rest, p.at, len)?),
+        Numeral::Decimal(len) => builder.push_decimal(p.at, len),
+        Numeral::Long(len) => {
+            let node = read_long(rest, p.at, len)?;
+            builder.push_static(node);
+        }
         Numeral::Invalid(offset) => return Err(invalid_number(rest, p.at, offset)),
     }
     Ok(())

@@ -3,14 +3,14 @@
 //! As in simdjson, nesting is kept in a list and not in calls, so that a deep input can't exhaust
 //! the program's stack. What is known of the innermost container is in `Progress`; an entry is
 //! written when a container opens in it, and read when that one closes.
-ghost use Rattle.std.specs.Prelude.{◌≡◌, ◌<◌, ◌≤◌, ◌+◌, ◌-◌, true, length, get_or};
+ghost use Rattle.std.specs.Prelude.{◌≡◌, ◌<◌, ◌≤◌, ◌+◌, ◌-◌, true, ℕ, List, length, get_or};
 ghost use Rattle.simd_json_parts.specs.Nodes.{item_of, static_item};
 ghost use Rattle.simd_json_stages.specs.Building.{closer, header_of, is_header, content_kind};
 ghost use Rattle.simd_json_stages.specs.Building.{patch, top};
 ghost use Rattle.simd_json_stages.specs.Put.{SameSink};
 
+use super::builder::Builder;
 use super::fault::FaultKind;
-use super::nodes::NodeSink;
 use super::progress::Progress;
 use simd_json_parts::node::{Node, StaticNode};
 
@@ -83,30 +83,31 @@ impl StackState {
 // Closes the innermost container at the last token: sets the counts of its header, and counts it as
 // one more member of its parent. Returns the progress in the parent.
 #[inline(always)]
-pub(super) fn close<'de, S: NodeSink<'de>>(
+pub(super) fn close<B: Builder>(
     stack: &[StackState],
-    nodes: &mut S,
+    builder: &mut B,
     p: Progress,
     container: Container,
 ) -> Progress
     requires depth { (0 < p.depth) × (p.depth ≤ length stack.now) }
-    requires header { (top stack.now p.depth).header < length (S.held_nodes nodes.old) }
-    requires headed { is_header (get_or (S.held_nodes nodes.old) (top stack.now p.depth).header
+    requires header { (top stack.now p.depth).header < length (B.held_nodes builder.old) }
+    requires headed { is_header (get_or (B.held_nodes builder.old) (top stack.now p.depth).header
         (static_item StaticNode.Null)) ≡ true }
-    requires len { (top stack.now p.depth).len < length (S.held_nodes nodes.old) }
+    requires len { (top stack.now p.depth).len < length (B.held_nodes builder.old) }
     requires container { container ≡ p.container }
     ensures progress { result ≡ record p {
       depth = p.depth - 1;
       container = (top stack.now p.depth).outer;
       len = (top stack.now p.depth).len + 1;
     } }
-    ensures nodes { S.held_nodes nodes.new
-        ≡ patch (S.held_nodes nodes.old) (top stack.now p.depth) p }
-    ensures sink { SameSink S.node_room S.lender nodes.old nodes.new }
+    ensures nodes { B.held_nodes builder.new
+        ≡ patch (B.held_nodes builder.old) (top stack.now p.depth) p }
+    ensures sink { SameSink B.node_room B.lender builder.old builder.new }
+    ensures reads { (b : List ℕ) (i : ℕ) → B.reads b builder.old i → B.reads b builder.new i }
 {
     let frame = stack[p.depth - 1];
-    let beneath = nodes.len() - frame.header - 1;
-    nodes.set_counts(frame.header, container, p.len, beneath);
+    let beneath = builder.len() - frame.header - 1;
+    builder.set_counts(frame.header, container, p.len, beneath);
     Progress {
         depth: p.depth - 1,
         container: frame.outer,

@@ -9,11 +9,11 @@ use Rattle.simd_json_stages.proofs.Machine.ScalarPut.{decimal-asked, decimal-put
 use Rattle.simd_json_stages.proofs.stage2.scalar.push_number.Goals as goal
 use Rattle.simd_json_stages.proofs.stage2.scalar.push_number.Goals.{in-Some, in-None}
 
-pub share-requires : goal.share-requires
-share-requires g c =
+pub push_decimal-requires-clause-literal : goal.push_decimal-requires-clause-literal
+push_decimal-requires-clause-literal g c =
     let b = g.K.Original.bytes in
-    let after = sym (c.from-rest.ensures b c.requires.at.input) in
-    decimal-asked c.requires c.in-Decimal.len (subst (IsNumeralAt b c.args.p.at) c.in-Decimal.is (elim c.match-parse_short.branch [
+    let after = sym (c.from-rest.ensures.bytes b c.requires.at.input) in
+    decimal-asked (λ b. g.B.Builder.reads b c.args.builder.now) c.requires c.in-Decimal.len (subst (IsNumeralAt b c.args.p.at) c.in-Decimal.is (elim c.match-parse_short.branch [
       | in-Some w ↦ rw w.numeral-is (w.in-Some.ensures b c.args.p.at after)
       | in-None w ↦ rw w.numeral-is (w.parse_numeral-numeral.ensures b c.args.p.at after)
     ]))
@@ -22,17 +22,17 @@ pub returns-in-Decimal-clause-put : goal.returns-in-Decimal-clause-put
 returns-in-Decimal-clause-put g c =
     let b = g.K.Original.bytes in
     let input = c.requires.at.input in
-    let after = sym (c.from-rest.ensures b input) in
-    decimal-put c.requires c.in-Decimal.len _ (subst (IsNumeralAt b c.args.p.at) c.in-Decimal.is (elim c.match-parse_short.branch [
+    let after = sym (c.from-rest.ensures.bytes b input) in
+    decimal-put (λ b. g.B.Builder.reads b c.args.builder.now) c.requires c.in-Decimal.len (subst (IsNumeralAt b c.args.p.at) c.in-Decimal.is (elim c.match-parse_short.branch [
       | in-Some w ↦ rw w.numeral-is (w.in-Some.ensures b c.args.p.at after)
       | in-None w ↦ rw w.numeral-is (w.parse_numeral-numeral.ensures b c.args.p.at after)
-    ])) (c.share.ensures.string b input) c.push_decimal.ensures.put (c.share.ensures.rest b input)
+    ])) (c.push_decimal.ensures.put b input) (c.push_decimal.ensures.reads b input)
 
 pub returns-in-Invalid-clause-rejected : goal.returns-in-Invalid-clause-rejected
 returns-in-Invalid-clause-rejected g c =
     let b = g.K.Original.bytes in
     let given = c.requires in
-    let after = sym (c.from-rest.ensures b given.at.input) in
+    let after = sym (c.from-rest.ensures.bytes b given.at.input) in
     let is = subst (IsNumeralAt b c.args.p.at) c.in-Invalid.is (elim c.match-parse_short.branch [
       | in-Some w ↦ rw w.numeral-is (w.in-Some.ensures b c.args.p.at after)
       | in-None w ↦ rw w.numeral-is (w.parse_numeral-numeral.ensures b c.args.p.at after)
@@ -41,20 +41,21 @@ returns-in-Invalid-clause-rejected g c =
     (offset-within b c.args.p.at c.in-Invalid.offset (omega (arith, given.at.within)) is) in
     number-rejected b c.args.p.at c.in-Invalid.offset c.invalid_number.result given.form is (c.invalid_number.ensures b after within)
 
-pub returns-in_err-read_long-in-Long-clause-rejected : goal.returns-in_err-read_long-in-Long-clause-rejected
-returns-in_err-read_long-in-Long-clause-rejected g c =
+pub returns-in_err-node-in-Long-clause-rejected : goal.returns-in_err-node-in-Long-clause-rejected
+returns-in_err-node-in-Long-clause-rejected g c =
     let b = g.K.Original.bytes in
     let given = c.requires in
-    let after = sym (c.from-rest.ensures b given.at.input) in
-    let read = c.in_err-read_long-in-Long.ensures b after (omega (arith, given.at.within)) in
+    let after = sym (c.from-rest.ensures.bytes b given.at.input) in
+    let read = c.in_err-node-in-Long.ensures b after (omega (arith, given.at.within)) in
     passed-on c.from_residual.result _ (IsNoScalar b c.args.p.at) c.from_residual.ensures.1
     (number-rejected b c.args.p.at read.0 _ given.form read.1 read.2)
 
-pub returns-in_ok-read_long-in-Long-clause-put : goal.returns-in_ok-read_long-in-Long-clause-put
-returns-in_ok-read_long-in-Long-clause-put g c =
+pub returns-in_ok-node-in-Long-clause-put : goal.returns-in_ok-node-in-Long-clause-put
+returns-in_ok-node-in-Long-clause-put g c =
     let b = g.K.Original.bytes in
     let given = c.requires in
-    let after = sym (c.from-rest.ensures b given.at.input) in
-    let read = c.in_ok-read_long-in-Long.ensures b after (omega (arith, given.at.within)) in
-    static-put (integer read.0 read.1) c.in_ok-read_long-in-Long.field-0 (c.args.p.at + c.in-Long.len) given.at.input
+    let after = sym (c.from-rest.ensures.bytes b given.at.input) in
+    let read = c.in_ok-node-in-Long.ensures b after (omega (arith, given.at.within)) in
+    static-put (integer read.0 read.1) c.in_ok-node-in-Long.node (c.args.p.at + c.in-Long.len)
+    (c.push_static-in-Long.ensures.reads b _ given.at.input)
     (given.form ∙ ap scalar read.2) (ap (λ s. static_item s ∷ []) (sym read.3)) c.push_static-in-Long.ensures.put

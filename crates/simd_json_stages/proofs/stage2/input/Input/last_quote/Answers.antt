@@ -3,7 +3,7 @@ use Rattle.std.proofs.lemmas.Bool.{cases_lt}
 use Rattle.simd_json_parts.specs.Bytes.{byte_at}
 use Rattle.simd_json_parts.specs.StringAt.{closing_quote}
 use Rattle.simd_json_stages.specs.Inputs.{IsStringBefore}
-use Rattle.simd_json_stages.proofs.Machine.InputLaws.{reads-kept}
+use Rattle.simd_json_stages.specs.ReadsLater.{reads-kept}
 use Rattle.simd_json_stages.proofs.stage2.input.Input.last_quote.Goals as goal
 
 pub overflow_sub-last : goal.overflow_sub-last

@@ -1,14 +1,14 @@
 use Rattle.std.proofs.Common.{◌≡◌, ◌<◌, ◌+◌, ◌∙◌, ap, sym, subst, suc, length, drop, refl, arith}
 use Rattle.std.specs.Prelude.{Ok}
 use Rattle.simd_json_parts.specs.StringAt.{closing_quote}
-use Rattle.simd_json_stages.specs.Inputs.{HasQuoted}
+use Rattle.simd_json_stages.specs.Inputs.{HasQuoted, Reads}
 use Rattle.simd_json_stages.proofs.Tokens.StringEnds.{string_at-end}
 use Rattle.simd_json_stages.proofs.Machine.InputLaws.{closes-here, lent-all, reads-after}
 use Rattle.simd_json_stages.proofs.stage2.input.Input.parse_string.Goals as goal
 
 pub parse_str-requires-clause-closing : goal.parse_str-requires-clause-closing
 parse_str-requires-clause-closing c =
-    let q : HasQuoted c.args.self.now c.args.at c.requires.quoted.next = c.requires.quoted.quoted in
+    let q : HasQuoted (λ b. Reads b c.args.self.now) c.args.at c.requires.quoted.next = c.requires.quoted.quoted in
     let is : c.split_at_mut-unread.result.0.now ≡ drop c.args.at q.b = lent-all (q.reads.part c.requires.lent)
     (c.split.ensures.end ∙ q.reads.end) (ap (λ r. r.now) c.take.ensures.value ∙ c.split.ensures.rest)
     c.split_at_mut-unread.ensures.front in
@@ -16,7 +16,7 @@ parse_str-requires-clause-closing c =
 
 pub overflow_add-self : goal.overflow_add-self
 overflow_add-self c =
-    let q : HasQuoted c.args.self.now c.args.at c.requires.quoted.next = c.requires.quoted.quoted in
+    let q : HasQuoted (λ b. Reads b c.args.self.now) c.args.at c.requires.quoted.next = c.requires.quoted.quoted in
     let is : c.split_at_mut-unread.result.0.now ≡ drop c.args.at q.b = lent-all (q.reads.part c.requires.lent)
     (c.split.ensures.end ∙ q.reads.end) (ap (λ r. r.now) c.take.ensures.value ∙ c.split.ensures.rest)
     c.split_at_mut-unread.ensures.front in

@@ -1,6 +1,7 @@
 use Rattle.std.proofs.Common.{◌+◌, ◌∙◌, sym, subst, refl, arith}
 use Rattle.std.specs.Prelude.{IsUtf8}
-use Rattle.simd_json_stages.proofs.Machine.InputLaws.{plain-string, plain-utf8, reads-kept, shared-slice}
+use Rattle.simd_json_stages.proofs.Machine.InputLaws.{plain-string, plain-utf8, shared-slice}
+use Rattle.simd_json_stages.specs.ReadsLater.{reads-kept}
 use Rattle.simd_json_stages.proofs.stage2.input.Input.share_string.Goals as goal
 
 pub share-requires : goal.share-requires

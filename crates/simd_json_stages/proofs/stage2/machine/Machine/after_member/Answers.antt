@@ -1,4 +1,4 @@
-use Rattle.std.proofs.Common.{◌<◌, ◌∙◌, refl, ap, sym, subst, length, arith}
+use Rattle.std.proofs.Common.{◌<◌, ◌∙◌, ap, sym, subst, length, arith}
 use Rattle.std.proofs.lemmas.List.{length-set}
 use Rattle.simd_json_stages.specs.Building.{closer, content_kind, top}
 use Rattle.simd_json_stages.specs.Members.{HasCapacity, IsFault}
@@ -25,7 +25,7 @@ next_token-requires-then-q-eq44 g c =
     record {
       on_route = last.on_route;
       read = next.read;
-      input = next-ahead last.on_route.positions next (last.progress.input next.more);
+      input = next-ahead last.on_route.positions (g.met.B.Builder.later g.K.Original.bytes c.args.builder.now) next (last.progress.input next.more);
     }
 
 pub returns-in_err-next_token-clause-rejected : goal.returns-in_err-next_token-clause-rejected
@@ -45,8 +45,8 @@ returns-then-q-eq44-clause-followed g c =
     let n = c.in_ok-q.ensures.next in
     let m = c.in_ok-next_token.ensures.next in
     let l = two-advances n m in
-    at-member g.K.Original.bytes c.args.route c.args.self.now _ _ _ kinds.ExpectedObjectKey last.on_route last.capacities
-    (comma-progress last.on_route.positions last.progress n m) (omega (arith, l.1, last.depth)) (omega (arith, l.1, c.requires.inside))
+    at-member g.K.Original.bytes c.args.route c.args.self.now _ _ _ _ kinds.ExpectedObjectKey last.on_route last.capacities
+    (comma-progress last.on_route.positions (g.met.B.Builder.later g.K.Original.bytes c.args.builder.now) last.progress n m) (omega (arith, l.1, last.depth)) (omega (arith, l.1, c.requires.inside))
     (step-comma last.after c.requires.inside n c.if-q-eq44.true m)
 
 pub returns-then-q-closer-clause-rejected : goal.returns-then-q-closer-clause-rejected
@@ -62,18 +62,18 @@ pub close-requires : goal.close-requires
 close-requires g c =
     let given = c.requires in
     let stack = c.args.self.now.stack.now in
-    let nodes = g.S.NodeSink.held_nodes c.args.nodes.now in
+    let nodes = g.B.Builder.held_nodes c.args.builder.now in
     let same = sym c.in_ok-q.ensures.next.same in
     let depth = ap (λ (q : Progress). q.depth) same in
     let held = subst (λ (q : Progress). HasHeader nodes (top stack q.depth).header × ((top stack q.depth).len < length nodes)) same
     (top-header given.last.after given.inside) in
-    λ κs. (
-      (refl, tt),
-      (
-        (omega (arith, depth), omega (arith, depth)),
-        (held.0.0, (held.0.1, (held.1, given.container ∙ ap (λ (q : Progress). q.container) same))),
-      ),
-    )
+    record {
+      depth = (omega (arith, depth), omega (arith, depth));
+      header = held.0.0;
+      headed = held.0.1;
+      len = held.1;
+      container = given.container ∙ ap (λ (q : Progress). q.container) same;
+    }
 
 pub returns-clause-advances : goal.returns-clause-advances
 returns-clause-advances g c = omega (
@@ -91,7 +91,8 @@ returns-clause-followed g c =
     record {
       on_route = last.on_route;
       capacities = subst (HasCapacity _ _ _) (sym close.sink.0) last.capacities;
-      progress = closed-after last.on_route.positions stack (ap length close.nodes ∙ length-set _ _ _) last.progress given.inside
+      progress = closed-after last.on_route.positions stack (ap length close.nodes ∙ length-set _ _ _)
+          (g.met.B.Builder.later g.K.Original.bytes c.close.new.builder) (close.reads g.K.Original.bytes) last.progress given.inside
           (top-header last.after given.inside).1 next close.progress;
       depth = omega (arith, last.depth, ap (λ (q : Progress). q.depth) (close.progress ∙ ap (closed_at stack) next.same));
       after = step-close last.after given.inside next (c.if-q-closer.false ∙ c.closer.ensures ∙ ap closer given.container)

@@ -8,7 +8,6 @@ use Rattle.simd_json_stages.proofs.Exits.{passed-as}
 use Rattle.simd_json_stages.proofs.Machine.Bounds.{later, after-first, before-first}
 use Rattle.simd_json_stages.proofs.Machine.BuildingSteps.{step-empty, step-open}
 use Rattle.simd_json_stages.proofs.Machine.Following.{at-member}
-use Rattle.simd_json_stages.proofs.Machine.InputLaws.{reads-kept}
 use Rattle.simd_json_stages.proofs.Machine.Rejecting.{rejects-deep, rejects-open_end}
 use Rattle.simd_json_stages.proofs.stage2.machine.Machine.open.Goals as goal
 
@@ -24,7 +23,7 @@ next_token-requires g c =
     record {
       on_route = first.on_route;
       read = first.progress.read;
-      input = λ more. reads-kept g.K.Original.bytes c.args.self.now.input _ _ first.progress.input
+      input = λ more. g.met.B.Builder.later g.K.Original.bytes c.args.builder.now _ _ first.progress.input
           (omega (arith, later _ _ first.on_route.positions c.args.p first.progress.read more));
     }
 
@@ -43,7 +42,8 @@ returns-then-q-closer-clause-came g c =
     record {
       on_route = first.on_route;
       capacities = subst (HasCapacity _ _ _) (sym c.push_header.ensures.room) first.capacities;
-      progress = after-first first.on_route.positions _ _ _ put first.progress next;
+      progress = after-first first.on_route.positions _ _ _ put (g.met.B.Builder.later g.K.Original.bytes c.push_header.new.self)
+          (c.push_header.ensures.reads g.K.Original.bytes) first.progress next;
       depth = omega (arith, ap (λ (q : Progress). q.depth) next.same, first.depth);
       after = step-empty c.args.container first.value first.progress.read.first put (omega arith) c.requires.bracket next
           (c.if-q-closer.true ∙ c.closer.ensures);
@@ -61,11 +61,12 @@ returns-clause-came g c =
     let next = c.in_ok-q.ensures.next in
     let put = c.push_header-2.ensures.put in
     let f : StackState = record { header = c.len.result; outer = c.args.p.container; len = c.args.p.len } in
-    at-member g.K.Original.bytes c.args.route _ _ _ _ kinds.ExpectedObjectContent first.on_route
+    at-member g.K.Original.bytes c.args.route _ _ _ _ _ kinds.ExpectedObjectContent first.on_route
     (record {
       node_capacity = omega (arith, c.push_header-2.ensures.room, first.capacities.node_capacity);
       frame_capacity = omega (arith, length-set c.args.self.now.stack.now c.args.p.depth f, first.capacities.frame_capacity);
     })
-    (before-first first.on_route.positions c.args.container _ _ _ put r next) (omega arith) (omega arith)
+    (before-first first.on_route.positions c.args.container _ _ _ put (g.met.B.Builder.later g.K.Original.bytes c.push_header-2.new.self)
+    (c.push_header-2.ensures.reads g.K.Original.bytes) r next) (omega arith) (omega arith)
     (step-open c.args.container first.value r.read.first put c.len.ensures (omega (arith, r.few, r.deep)) (omega arith)
     c.requires.bracket next (λ is. c.if-q-closer.false (is ∙ sym c.closer.ensures)))

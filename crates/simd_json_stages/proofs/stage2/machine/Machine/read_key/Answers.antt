@@ -1,4 +1,4 @@
-use Rattle.std.proofs.Common.{sym, subst, refl, arith}
+use Rattle.std.proofs.Common.{sym, subst, arith}
 use Rattle.simd_json_stages.specs.Members.{HasCapacity, IsFault}
 use Rattle.simd_json_stages.proofs.Exits.{passed-on, passed-as}
 use Rattle.simd_json_stages.proofs.Machine.Bounds.{node-left, name-token, next-ahead, string-ahead, two-advances}
@@ -13,17 +13,16 @@ returns-then-p-ne34-clause-rejected g c =
     (rejects-no_name c.args.kind c.requires.name c.requires.progress.read.first c.if-p-ne34.true)
 
 pub push_string-requires : goal.push_string-requires
-push_string-requires g c = let given = c.requires in λ κs. (
-  (refl, tt),
-  record {
-    on_route = given.on_route;
-    read = given.progress.read;
-    token = name-token given.on_route.positions given.name;
-    opening = c.if-p-ne34.false;
-    input = given.progress.input;
-    room = node-left given.progress given.depth given.capacities;
-  },
-)
+push_string-requires g c =
+    let given = c.requires in
+    record {
+      on_route = given.on_route;
+      read = given.progress.read;
+      token = name-token given.on_route.positions given.name;
+      opening = c.if-p-ne34.false;
+      input = given.progress.input;
+      room = node-left given.progress given.depth given.capacities;
+    }
 
 pub returns-in_err-push_string-clause-rejected : goal.returns-in_err-push_string-clause-rejected
 returns-in_err-push_string-clause-rejected g c =
@@ -38,7 +37,8 @@ next_token-requires g c =
     record {
       on_route = given.on_route;
       read = r.read;
-      input = string-ahead e r.read (name-token e given.name) c.if-p-ne34.false c.in_ok-push_string.ensures.put;
+      input = string-ahead e (g.met.B.Builder.later g.K.Original.bytes c.push_string.new.builder) r.read (name-token e given.name)
+          c.if-p-ne34.false c.in_ok-push_string.ensures.put;
     }
 
 pub returns-in_err-colon-clause-rejected : goal.returns-in_err-colon-clause-rejected
@@ -59,11 +59,12 @@ next_token-requires-2 g c =
     let e = given.on_route.positions in
     let r = given.progress in
     let next = c.in_ok-colon.ensures.next in
+    let kept = g.met.B.Builder.later g.K.Original.bytes c.push_string.new.builder in
     record {
       on_route = given.on_route;
       read = next.read;
-      input = next-ahead e next
-          (string-ahead e r.read (name-token e given.name) c.if-p-ne34.false c.in_ok-push_string.ensures.put next.more);
+      input = next-ahead e kept next
+          (string-ahead e kept r.read (name-token e given.name) c.if-p-ne34.false c.in_ok-push_string.ensures.put next.more);
     }
 
 pub returns-in_err-value-clause-rejected : goal.returns-in_err-value-clause-rejected
@@ -84,10 +85,11 @@ returns-clause-value g c =
     let put = c.in_ok-push_string.ensures.put in
     let n = c.in_ok-colon.ensures.next in
     let m = c.in_ok-value.ensures.next in
+    let kept = g.met.B.Builder.later g.K.Original.bytes c.push_string.new.builder in
     record {
       on_route = given.on_route;
       capacities = subst (HasCapacity _ _ _) (sym c.in_ok-push_string.ensures.sink.0) given.capacities;
-      progress = named-progress e _ _ _ put.put r (string-ahead e r.read (name-token e given.name) c.if-p-ne34.false put n.more) n m;
+      progress = named-progress e kept _ _ _ put.put r (string-ahead e kept r.read (name-token e given.name) c.if-p-ne34.false put n.more) n m;
       depth = omega (arith, (two-advances n m).1, given.depth);
       value = step-name given.name r.read.first c.if-p-ne34.false put n c.if-colon-ne58.false m;
     }

@@ -1,0 +1,182 @@
+//! What the machine reads and writes: an input, and a destination for the nodes of its document.
+//!
+//! The machine names a text by its place in the input, and the builder shares it and hands it on:
+//! so how strings and numbers are kept is the builder's choice alone.
+ghost use Rattle.std.specs.Prelude.{◌≡◌, ◌<◌, ◌≤◌, ◌+◌, ◌^◌, true, ℕ, List, [], ◌∷◌, ◌++◌};
+ghost use Rattle.std.specs.Prelude.{length, get_or, slice_set, take, drop, Err, MatchResult};
+ghost use Rattle.simd_json_parts.specs.Bytes.{byte_at};
+ghost use Rattle.simd_json_parts.specs.Nodes.{Item, static_item, decimal_item};
+ghost use Rattle.simd_json_parts.specs.StringAt.{string_at, escape_fault};
+ghost use Rattle.simd_json_stages.specs.Building.{header_of, is_header};
+ghost use Rattle.simd_json_stages.specs.Inputs.{HasBytes, HasQuoted, HasString, IsStringBefore};
+ghost use Rattle.simd_json_stages.specs.Inputs.{Reads};
+ghost use Rattle.simd_json_stages.specs.Put.{IsStringPut};
+ghost use Rattle.simd_json_stages.specs.ReadsLater.{reads-kept};
+
+use super::input::Input;
+use super::nodes::NodeSink;
+use super::stack::Container;
+use simd_json_parts::node::StaticNode;
+use simd_json_scalars::stringparse::BadEscape;
+use std::result::Result;
+
+// An input that is read from the front, and the nodes that were made of it. All indexes are of
+// bytes of the whole input. The ghost items but `reads` are those of `NodeSink`.
+pub(crate) trait Builder {
+    // All bytes of an input from an index on can be read.
+    ghost reads: { List ℕ → Self → ℕ → Type 0 };
+
+    ghost held_nodes: { Self → List Item };
+
+    ghost node_room: { Self → ℕ };
+
+    ghost Lender: { Type 0 };
+
+    ghost lender: { Self → Self.Lender };
+
+    // The index of the end of the input.
+    fn end(&self) -> usize
+        ensures { (b : List ℕ) (i : ℕ) → reads b self.now i → result ≡ length b };
+
+    // The byte at index i.
+    fn byte(&self, i: usize) -> u8
+        requires { HasBytes (λ b. reads b self.now) i 1 }
+        ensures { (b : List ℕ) → reads b self.now i → result ≡ byte_at b i };
+
+    // All bytes from index i on.
+    fn from(&self, i: usize) -> &[u8]
+        requires { HasBytes (λ b. reads b self.now) i 0 }
+        ensures bytes { (b : List ℕ) → reads b self.now i → result.now ≡ drop i b }
+        ensures fits { i + length result.now < 2 ^ 64 };
+
+    // How many nodes were appended.
+    fn len(&self) -> usize
+        ensures { result ≡ length (held_nodes self.now) };
+
+    // Appends the string whose opening quote has index `at`, and which is closed before index
+    // `end`, or returns its first invalid escape.
+    fn push_string(&mut self, at: usize, end: usize) -> Result<(), BadEscape>
+        requires room { length (held_nodes self.old) < node_room self.old }
+        requires quoted { HasQuoted (λ b. reads b self.old) at end }
+        ensures lender { lender self.new ≡ lender self.old }
+        ensures room { node_room self.new ≡ node_room self.old }
+        ensures put { (b : List ℕ) → reads b self.old at → IsStringBefore b at end
+            → MatchResult result
+            (λ _. IsStringPut b at (held_nodes self.old) (held_nodes self.new) (reads b self.new))
+            (λ bad. string_at b at ≡ Err (escape_fault (at + bad.offset) bad.letter)) };
+
+    // Appends a number as its literal, the `len` bytes from index `at` on.
+    fn push_decimal(&mut self, at: usize, len: usize)
+        requires room { length (held_nodes self.old) < node_room self.old }
+        requires literal { HasString (λ b. reads b self.old) at len }
+        ensures lender { lender self.new ≡ lender self.old }
+        ensures room { node_room self.new ≡ node_room self.old }
+        ensures put { (b : List ℕ) → reads b self.old at → held_nodes self.new
+            ≡ held_nodes self.old ++ decimal_item (take len (drop at b)) ∷ [] }
+        ensures reads { (b : List ℕ) → reads b self.old at → reads b self.new (at + len) };
+
+    // Appends a null, a boolean or an integer.
+    fn push_static(&mut self, value: StaticNode)
+        requires { length (held_nodes self.old) < node_room self.old }
+        ensures lender { lender self.new ≡ lender self.old }
+        ensures room { node_room self.new ≡ node_room self.old }
+        ensures put { held_nodes self.new ≡ held_nodes self.old ++ static_item value ∷ [] }
+        ensures reads { (b : List ℕ) (i : ℕ) → reads b self.old i → reads b self.new i };
+
+    // Appends the header of a container, with counts of 0.
+    fn push_header(&mut self, container: Container)
+        requires { length (held_nodes self.old) < node_room self.old }
+        ensures lender { lender self.new ≡ lender self.old }
+        ensures room { node_room self.new ≡ node_room self.old }
+        ensures put { held_nodes self.new ≡ held_nodes self.old ++ header_of container 0 0 ∷ [] }
+        ensures reads { (b : List ℕ) (i : ℕ) → reads b self.old i → reads b self.new i };
+
+    // Sets the counts of the header at index `header` among the nodes.
+    fn set_counts(&mut self, header: usize, container: Container, len: usize, count: usize)
+        requires within { header < length (held_nodes self.old) }
+        requires header { is_header (get_or (held_nodes self.old) header
+            (static_item StaticNode.Null)) ≡ true }
+        ensures lender { lender self.new ≡ lender self.old }
+        ensures room { node_room self.new ≡ node_room self.old }
+        ensures patched { held_nodes self.new
+            ≡ slice_set (held_nodes self.old) header (header_of container len count) }
+        ensures reads { (b : List ℕ) (i : ℕ) → reads b self.old i → reads b self.new i };
+
+    // What can be read from one index on can be from a later one.
+    ghost later: { (b : List ℕ) (s : Self) (i j : ℕ) → reads b s i → i ≤ j → reads b s j };
+}
+
+// A sink of the caller's choice, whose strings and numbers share the input.
+#[derive(Drop)]
+pub(super) struct Sharing<'n, 'i, 'm, 'de, S> {
+    pub(super) input: &'i mut Input<'m, 'de>,
+    pub(super) nodes: &'n mut S,
+}
+
+impl<'n, 'i, 'm, 'de, S: NodeSink<'de>> Builder for Sharing<'n, 'i, 'm, 'de, S> {
+    ghost reads = { λ b s i. Reads b s.input.now i };
+
+    ghost held_nodes = { λ s. S.held_nodes s.nodes.now };
+
+    ghost node_room = { λ s. S.node_room s.nodes.now };
+
+    ghost Lender = { ℕ × S.Lender };
+
+    ghost lender = { λ s. (s.nodes.ghost_name, S.lender s.nodes.now) };
+
+    #[inline(always)]
+    fn end(&self) -> usize {
+        self.input.end
+    }
+
+    #[inline(always)]
+    fn byte(&self, i: usize) -> u8 {
+        self.input.byte(i)
+    }
+
+    #[inline(always)]
+    fn from(&self, i: usize) -> &[u8] {
+        self.input.from(i)
+    }
+
+    #[inline(always)]
+    fn len(&self) -> usize {
+        self.nodes.len()
+    }
+
+    #[inline(always)]
+    fn push_string(&mut self, at: usize, end: usize) -> Result<(), BadEscape> {
+        let may_have_escape = self.input.may_have_escape(at, end);
+        if !may_have_escape {
+            self.nodes.push_string(self.input.share_string(at, end));
+            return Ok(());
+        }
+        match self.input.parse_string(at) {
+            Ok(string) => self.nodes.push_string(string),
+            Err(bad) => return Err(bad),
+        }
+        Ok(())
+    }
+
+    #[inline(always)]
+    fn push_decimal(&mut self, at: usize, len: usize) {
+        self.nodes.push_decimal(self.input.share(at, len));
+    }
+
+    #[inline(always)]
+    fn push_static(&mut self, value: StaticNode) {
+        self.nodes.push_static(value);
+    }
+
+    #[inline(always)]
+    fn push_header(&mut self, container: Container) {
+        self.nodes.push_header(container);
+    }
+
+    #[inline(always)]
+    fn set_counts(&mut self, header: usize, container: Container, len: usize, count: usize) {
+        self.nodes.set_counts(header, container, len, count);
+    }
+
+    ghost later = { λ b s i j. reads-kept b s.input.now i j };
+}
