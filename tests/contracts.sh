@@ -23,8 +23,6 @@ log_report Options::labels            as above
 log_report asked                      as above
 simd_json_serde Texts::new            what it holds changes no result
 simd_json_serde NodeReader::into_outer  the list is empty memory for the next reader
-simd_json_serde Mismatch::path        words for people, tested (simd_json_serde_tests)
-simd_json_serde Mismatch::name        as above
 END
 
 # Clauses are between a function's signature and its body. `rt fmt` puts each clause and, after clauses, the body's bracket at

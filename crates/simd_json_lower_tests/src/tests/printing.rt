@@ -285,7 +285,7 @@ fn levels_are_allocated_past_64(rt: HostRuntime) -> std::result::Result<(), Fail
         let appended = append_compact_within(&mut compact, nodes.as_slice(), &mut levels);
         assert_eq!(rt; appended.is_ok(), suffices, "{pairs} pairs, {size} bytes");
         assert!(rt; pairs > 32 || heap.used() == 0, "{pairs} pairs");
-        assert_eq!(rt; &compact[..3], b" 1 ");
+        assert_eq!(rt; &compact[..3], b" 1 ".as_slice());
         let text = &compact[3..];
         assert!(rt; text == &wanted[..text.len()], "{pairs} pairs");
         assert_eq!(rt; text.len() == wanted.len(), suffices, "{pairs} pairs");
