@@ -37,9 +37,8 @@
  * escapes in place, and afterwards its contents are unspecified. Pass a copy of what is needed again. All other calls take it
  * as const, and leave it as it is.
  *
- * `max_depth` is how many arrays and objects may be open at a time: 1024 is usual, 0 allows scalars only. simd_json_parser_print
- * takes about 11 bytes of the stack for each, which no status tells of: 8 MB are enough for 500,000, and a thread with 256 kB
- * for 20,000. All others take the same stack however deep the input is.
+ * `max_depth` is how many arrays and objects may be open at a time: 1024 is usual, 0 allows scalars only. Each call takes the
+ * same stack however deep the input is.
  */
 #ifndef SIMD_JSON_H
 #define SIMD_JSON_H

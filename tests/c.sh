@@ -28,7 +28,9 @@ for program in rows calls lent mutants; do
 done
 # shellcheck disable=SC2086
 cc $flags tests/c/memory.c build/libsimd_json.a -Wl,--wrap=malloc,--wrap=realloc,--wrap=free -o "$room/memory"
-for program in calls lent memory; do "$room/$program"; done
+# shellcheck disable=SC2086
+cc $flags -pthread tests/c/deep.c build/libsimd_json.a -o "$room/deep"
+for program in calls lent memory deep; do "$room/$program"; done
 by "$room/rows"
 
 if command -v python3 > /dev/null; then

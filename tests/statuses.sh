@@ -59,7 +59,7 @@ nested() {
         for (i = 0; i < pairs; i++) printf "}]"
         print ""
     }' > "$room/nested"
-    (ulimit -s "$2" && exec "$program" compact "$((2 * $1))") < "$room/nested" > "$room/out" 2> "$room/err"
+    env -i sh -c 'ulimit -s "$1" && exec "$2" compact "$3"' sh "$2" "$program" "$((2 * $1))" < "$room/nested" > "$room/out" 2> "$room/err"
     status=$?
     [ "$status" = 0 ] && cmp -s "$room/nested" "$room/out" && [ ! -s "$room/err" ] && return
     different=1
@@ -67,8 +67,8 @@ nested() {
     sed 's/^/    standard error: /' "$room/err"
 }
 
-# A parse does not recurse, and a container takes about 11 bytes of the stack that prints it.
-nested 250000 6000
+# Neither a parse nor printing recurses: four million containers are printed with little stack.
+nested 2000000 64
 
 # What is rejected is reported, and nothing is written.
 for mode in tape positions compact pretty; do

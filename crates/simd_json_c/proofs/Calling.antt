@@ -1,5 +1,6 @@
 -- What a call leaves that is made with the lists of an open parser, by what it returns for them.
 use Rattle.std.specs.Prelude.{◌≡◌, ◌⊎◌, ℕ, ℤ, pos, List, IsUtf8, Bool, Option, Some, None, Result, Ok, Err, IfOk, IfErr, MatchResult}
+use Rattle.std.specs.Prelude.{length}
 use Rattle.std.specs.Result.{result_err}
 use Rattle.std.specs.Vec.{vec_capacity}
 use Rattle.std.proofs.Common.{◌∙◌, inl, inr}
@@ -50,7 +51,7 @@ pub printed-with : (old new : Option Lists) (was lists : Lists) (b : List ℕ) (
     (status : ℤ) (place : ErrorPlace) (old_needed needed : ℕ) (old_out out : List ℕ) → AreKeptOpen old new was lists
     → IsReported r status place
     → IfOk r (λ s. (IsUtf8 pointer × ((ns : List Item) × (d : Document) × IsTapedWith was b None ns lists × (listing d ≡ ns)
-    × IsChosenPut (vec_capacity was.printed) is_pretty pointer d s old_needed needed old_out out))
+    × IsChosenPut (vec_capacity was.printed) (length was.levels.items) is_pretty pointer d s old_needed needed old_out out))
     ⊎ ((IsUtf8 pointer → ⊥) × (s ≡ no_value) × (needed ≡ old_needed) × (out ≡ old_out)))
     → IfErr r (λ e. IsUtf8 pointer
     × ((ns : List Item) × IsTapedWith was b (Some e) ns lists × (needed ≡ old_needed) × (out ≡ old_out)))

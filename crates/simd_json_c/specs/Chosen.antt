@@ -1,10 +1,11 @@
 -- The text of a value that a pointer names in a document.
-use Rattle.std.specs.Prelude.{◌≡◌, ◌<◌, ◌⊎◌, ℕ, ℤ, List, length, Bool, true, false, Option, None, MatchOption, option_map, IsUtf8}
+use Rattle.std.specs.Prelude.{◌≡◌, ◌<◌, ◌⊎◌, ℕ, ℤ, List, length, max, Bool, true, false, Option, None, MatchOption, IsUtf8}
 use Rattle.std.specs.Result.{result_ok}
 use Rattle.std.specs.Vec.{vec_capacity}
 use Rattle.simd_json.specs.Parsed.{IsParse}
 use Rattle.simd_json.specs.Reserved.{parse_capacity}
 use Rattle.simd_json_parts.specs.Document.{Document}
+use Rattle.simd_json_parts.specs.Limits.{depth}
 use Rattle.simd_json_parts.specs.Listing.{listing}
 use Rattle.simd_json_parts.specs.Nodes.{Item}
 use Rattle.simd_json_parts.specs.Pointed.{pointed}
@@ -21,18 +22,18 @@ abbrev pub printed : Bool → Document → List ℕ
 printed false d = compact d
 printed true d = pretty d
 
--- of the value that the pointer names, where it names one
-abbrev pub text_at : Bool → List ℕ → Document → Option (List ℕ)
-text_at is_pretty pointer d = option_map (printed is_pretty) (result_ok (pointed pointer d))
+-- The list for the text had less capacity; or more containers are open at a time than 64, and than there were levels.
+abbrev pub IsTooLittle : ℕ → ℕ → Bool → Document → Type 0
+IsTooLittle capacity levels is_pretty d = (capacity < length (printed is_pretty d)) ⊎ (max 64 levels < depth d)
 
--- it is put or has too little room, or an allocation failed, where the list for it had less capacity; or there is no such value
-unfoldable pub IsChosenPut : ℕ → Bool → List ℕ → Document → ℤ → ℕ → ℕ → List ℕ → List ℕ → Type 0
-IsChosenPut capacity is_pretty pointer d status old_needed needed old new =
-    MatchOption (text_at is_pretty pointer d)
+-- the text of the value that the pointer names is put or has too little room, or an allocation failed; or there is no such value
+unfoldable pub IsChosenPut : ℕ → ℕ → Bool → List ℕ → Document → ℤ → ℕ → ℕ → List ℕ → List ℕ → Type 0
+IsChosenPut capacity levels is_pretty pointer d status old_needed needed old new =
+    MatchOption (result_ok (pointed pointer d))
     ((status ≡ no_value) × (needed ≡ old_needed) × (new ≡ old))
-    (λ text.
-    IsTextPut text status needed old new
-    ⊎ ((status ≡ out_of_memory) × (needed ≡ old_needed) × (new ≡ old) × (capacity < length text)))
+    (λ e.
+    IsTextPut (printed is_pretty e) status needed old new
+    ⊎ ((status ≡ out_of_memory) × (needed ≡ old_needed) × (new ≡ old) × IsTooLittle capacity levels is_pretty e))
 
 -- a parse of b with the lists and their tape, and the lists afterwards
 abbrev pub IsTapedWith : Lists → List ℕ → Option Error → List Item → Lists → Type 0
@@ -45,7 +46,7 @@ IsPrintOf was lists b is_pretty pointer status place old_needed needed old_out o
     (fault : Option Error) × (ns : List Item) × IsTapedWith was b fault ns lists × (place ≡ error_place fault)
     × MatchOption fault
     ((d : Document) × (listing d ≡ ns)
-    × IsChosenPut (vec_capacity was.printed) is_pretty pointer d status old_needed needed old_out out)
+    × IsChosenPut (vec_capacity was.printed) (length was.levels.items) is_pretty pointer d status old_needed needed old_out out)
     (λ e. (status ≡ error_status fault) × (needed ≡ old_needed) × (out ≡ old_out))
 
 -- with any parser; a pointer that is no text names no value, and the input is not read

@@ -1,5 +1,5 @@
 //! The lists that calls with a parser use one after another, and what is done with them.
-ghost use Rattle.std.specs.Prelude.{◌≡◌, ◌⊎◌, List, IfOk, IfErr, IsUtf8, None, Some, pos};
+ghost use Rattle.std.specs.Prelude.{◌≡◌, ◌⊎◌, List, IfOk, IfErr, IsUtf8, None, Some, length, pos};
 ghost use Rattle.std.specs.Result.{result_err};
 ghost use Rattle.std.specs.Vec.{vec_capacity};
 ghost use Rattle.simd_json.specs.Capacities.{KeepsCapacities};
@@ -19,6 +19,7 @@ use crate::print::print_at;
 use crate::source::Source;
 use crate::status::{ErrorPlace, NO_VALUE, OUT_OF_MEMORY, reported};
 use simd_json::{Buffers, Result, Tape, refill_tape};
+use simd_json_print::document::Level;
 use std::alloc::Global;
 use std::marker::Brand;
 use std::mem::replace;
@@ -59,6 +60,8 @@ pub struct Lists {
     // the tape of a document that is printed, empty between calls, and its text
     pub(crate) tape: Tape<'static>,
     pub(crate) printed: Vec<u8>,
+    // what is open while it is printed, past a few containers
+    pub(crate) levels: Vec<Level>,
     // the nodes and the texts that are lent
     pub(crate) nodes: Vec<Node>,
     pub(crate) text: Vec<u8>,
@@ -75,6 +78,7 @@ impl Lists {
             buffers: Buffers::empty(alloc, max_depth),
             tape: Tape::empty(alloc),
             printed: Vec::new(alloc),
+            levels: Vec::new(alloc),
             nodes: Vec::new(alloc),
             text: Vec::new(alloc),
             source: Source::new(alloc),
@@ -104,8 +108,8 @@ impl Lists {
     ) -> Result<i32>
         ensures printed { IfOk result (λ status. (ns : List Item) × (d : Document)
             × IsTapedWith self.old input.old None ns self.new × (listing d ≡ ns)
-            × IsChosenPut (vec_capacity self.old.printed) is_pretty pointer.now d status
-            needed.old needed.new out.old out.new) }
+            × IsChosenPut (vec_capacity self.old.printed) (length self.old.levels.items)
+            is_pretty pointer.now d status needed.old needed.new out.old out.new) }
         ensures rejected { IfErr result (λ e. (ns : List Item)
             × IsTapedWith self.old input.old (Some e) ns self.new
             × (needed.new ≡ needed.old) × (out.new ≡ out.old)) }
@@ -116,7 +120,15 @@ impl Lists {
         match parsed {
             Ok(()) => {
                 let value = tape.as_value();
-                let status = print_at(value, pointer, is_pretty, &mut self.printed, out, needed);
+                let status = print_at(
+                    value,
+                    pointer,
+                    is_pretty,
+                    &mut self.printed,
+                    &mut self.levels,
+                    out,
+                    needed,
+                );
                 drop(replace(&mut self.tape, tape.reset()));
                 Ok(status)
             }
@@ -140,8 +152,8 @@ impl Lists {
         ensures printed { IfOk result (λ status. (IsUtf8 pointer.now
             × ((ns : List Item) × (d : Document)
             × IsTapedWith self.old input.old None ns self.new × (listing d ≡ ns)
-            × IsChosenPut (vec_capacity self.old.printed) is_pretty pointer.now d status
-            needed.old needed.new out.old out.new))
+            × IsChosenPut (vec_capacity self.old.printed) (length self.old.levels.items)
+            is_pretty pointer.now d status needed.old needed.new out.old out.new))
             ⊎ ((IsUtf8 pointer.now → ⊥) × (status ≡ no_value)
             × (needed.new ≡ needed.old) × (out.new ≡ out.old))) }
         ensures rejected { IfErr result (λ e. IsUtf8 pointer.now × ((ns : List Item)

@@ -1,11 +1,12 @@
 //! The printed text of a document. If the room is too small, only the needed size is written, so a
 //! text is made first and then copied.
-ghost use Rattle.std.specs.Prelude.{◌≡◌, ◌<◌, ◌≤◌, ◌+◌, ◌++◌, ◌==◌, IfOk, IfErr, OnOk, OnErr, Some};
-ghost use Rattle.std.specs.Prelude.{length, map, not, string_bytes};
+ghost use Rattle.std.specs.Prelude.{◌≡◌, ◌<◌, ◌≤◌, ◌⊎◌, ◌+◌, ◌++◌, ◌==◌, IfOk, IfErr};
+ghost use Rattle.std.specs.Prelude.{OnOk, OnErr, Some, length, map, max, not, string_bytes};
 ghost use Rattle.std.specs.Result.{result_err};
 ghost use Rattle.std.specs.Vec.{vec_capacity};
 ghost use Rattle.simd_json.specs.Viewed.{doc};
 ghost use Rattle.simd_json_parts.specs.Document.{Document};
+ghost use Rattle.simd_json_parts.specs.Limits.{depth};
 ghost use Rattle.simd_json_parts.specs.Listing.{listing};
 ghost use Rattle.simd_json_parts.specs.Nodes.{item_of};
 ghost use Rattle.simd_json_c.specs.Calls.{IsTextPut};
@@ -18,7 +19,7 @@ use crate::status::{
 };
 use simd_json::tape::Value;
 use simd_json::{Node, Result};
-use simd_json_print::document::{append_compact, append_pretty};
+use simd_json_print::document::{Level, append_compact_within, append_pretty_within};
 use simd_json_print::text::store_bytes;
 use std::alloc::{AllocError, Global};
 use std::mem::replace;
@@ -54,26 +55,28 @@ pub(crate) fn put_text(text: &[u8], out: &mut [u8], needed: &mut usize) -> i32
     0
 }
 
-// Copies the text of the value that a pointer names, which is made in `text`, if there is room for
-// it, and returns the status.
+// Copies the text of the value that a pointer names, which is made in `text` with these levels, if
+// there is room for it, and returns the status.
 #[tactic(auto, unfolding(crate::specs::Chosen::IsChosenPut))]
 pub(crate) fn print_at(
     value: Value<'_, '_>,
     pointer: &str,
     is_pretty: bool,
     text: &mut Vec<u8>,
+    levels: &mut Vec<Level>,
     out: &mut [u8],
     needed: &mut usize,
 ) -> i32
-    ensures chosen { IsChosenPut (vec_capacity text.old) is_pretty pointer.now (doc value.entry)
-        result needed.old needed.new out.old out.new }
+    ensures chosen { IsChosenPut (vec_capacity text.old) (length levels.old.items) is_pretty
+        pointer.now (doc value.entry) result needed.old needed.new out.old out.new }
     ensures capacity { vec_capacity text.old ≤ vec_capacity text.new }
+    ensures levels { length levels.old.items ≤ length levels.new.items }
 {
     text.clear();
     let Some(named) = value.pointer(pointer) else {
         return NO_VALUE;
     };
-    match append(text, named.nodes(), is_pretty) {
+    match append(text, levels, named.nodes(), is_pretty) {
         Ok(()) => put_text(text, out, needed),
         Err(_) => OUT_OF_MEMORY,
     }
@@ -82,20 +85,23 @@ pub(crate) fn print_at(
 // Appends the text of the document that the nodes list.
 fn append(
     text: &mut Vec<u8>,
+    levels: &mut Vec<Level>,
     nodes: &[Node<'_>],
     is_pretty: bool,
 ) -> std::result::Result<(), AllocError>
     ensures appended { (d : Document) → map item_of nodes.now ≡ listing d
         → OnOk result (text.new.items ≡ text.old.items ++ printed is_pretty d) }
     ensures lacking { (d : Document) → map item_of nodes.now ≡ listing d
-        → OnErr result (vec_capacity text.old
-        < length text.old.items + length (printed is_pretty d)) }
+        → OnErr result ((vec_capacity text.old
+        < length text.old.items + length (printed is_pretty d))
+        ⊎ (max 64 (length levels.old.items) < depth d)) }
     ensures capacity { vec_capacity text.old ≤ vec_capacity text.new }
+    ensures levels { length levels.old.items ≤ length levels.new.items }
 {
     if is_pretty {
-        append_pretty(text, nodes)
+        append_pretty_within(text, nodes, levels)
     } else {
-        append_compact(text, nodes)
+        append_compact_within(text, nodes, levels)
     }
 }
 

@@ -147,7 +147,13 @@ height-followed ss (d ∷ ds) =
 pub height-selected_by_all : (root : Document) (ss : List Selector) (d : Document) → height (selected_by_all root ss d) ≤ depth d
 height-selected_by_all root [] d = omega arith
 height-selected_by_all root (s ∷ ss) d =
-    omega (arith, height-append (selected_by root s d) (selected_by_all root ss d), height-selected_by root s d, height-selected_by_all root ss d)
+    omega (
+      arith,
+      height-append (selected_by root s d) (selected_by_all root ss d),
+      height-selected_by root s d,
+      height-selected_by_all
+          root ss d,
+    )
 
 pub height-entered : (b : Bool) (d : Document) → height (entered b d) ≤ depth d
 height-entered false d = omega arith

@@ -90,4 +90,5 @@ module _ (root : Document) where
       ∙ flat_map-append (from_node root ss) sel (flat_map (selected_of root s) below)
       ∙ ap (λ xs. flat_map (from_node root ss) sel ++ xs) (flat_map-flat_map (from_node root ss) (selected_of root s) below)
       ∙ ap (λ xs. flat_map (from_node root ss) sel ++ xs)
-      (sym (flat_map-same (from_node root (s ∷ ss)) (λ e. flat_map (from_node root ss) (selected_of root s e)) (from_node-cons root s ss) below))
+      (sym (flat_map-same (from_node root (s ∷ ss)) (λ e. flat_map (from_node root ss) (selected_of root s e)) (from_node-cons root s ss)
+      below))

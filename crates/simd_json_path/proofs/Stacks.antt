@@ -70,29 +70,30 @@ module _ (root : Document) where
 
 -- ---- it is finished, or gives a value
 
-module _ (root : Document) (fs : List Frame) (k : ℕ) (old new : Frame) (room : ℕ) (within : k < length fs) (is : old ≡ get_or fs k old) where
-  pub finished-left : frame_left root room old ≡ []
-      → frames_left root (k + suc room) (take (k + 1) fs) ≡ frames_left root (k + suc room) (take k (set fs k new))
-  finished-left none =
-      before-left root room fs k old within is
-      ∙ ap (λ xs. xs ++ frames_left root (k + suc room) (take k fs)) none
-      ∙ ap (frames_left root (k + suc room)) (sym (take-set fs k new))
+module _ (root : Document) (fs : List Frame) (k : ℕ) (old new : Frame) (room : ℕ) (within : k < length fs) (is : old ≡ get_or fs k old)
+  where
+    pub finished-left : frame_left root room old ≡ []
+        → frames_left root (k + suc room) (take (k + 1) fs) ≡ frames_left root (k + suc room) (take k (set fs k new))
+    finished-left none =
+        before-left root room fs k old within is
+        ∙ ap (λ xs. xs ++ frames_left root (k + suc room) (take k fs)) none
+        ∙ ap (frames_left root (k + suc room)) (sym (take-set fs k new))
 
-  pub stepped-left : (xs : List (Option Document)) → frame_left root room old ≡ xs ++ frame_left root room new
-      → frames_left root (k + suc room) (take (k + 1) fs) ≡ xs ++ frames_left root (k + suc room) (take (k + 1) (set fs k new))
-  stepped-left xs step =
-      before-left root room fs k old within is
-      ∙ ap (λ ys. ys ++ frames_left root (k + suc room) (take k fs)) step
-      ∙ append_assoc xs (frame_left root room new) (frames_left root (k + suc room) (take k fs))
-      ∙ ap (λ ys. xs ++ ys) (sym (after-left root room fs k new within))
+    pub stepped-left : (xs : List (Option Document)) → frame_left root room old ≡ xs ++ frame_left root room new
+        → frames_left root (k + suc room) (take (k + 1) fs) ≡ xs ++ frames_left root (k + suc room) (take (k + 1) (set fs k new))
+    stepped-left xs step =
+        before-left root room fs k old within is
+        ∙ ap (λ ys. ys ++ frames_left root (k + suc room) (take k fs)) step
+        ∙ append_assoc xs (frame_left root room new) (frames_left root (k + suc room) (take k fs))
+        ∙ ap (λ ys. xs ++ ys) (sym (after-left root room fs k new within))
 
-  pub finished-effort : frames_effort root (k + suc room) (take k (set fs k new)) < frames_effort root (k + suc room) (take (k + 1) fs)
-  finished-effort =
-      omega (arith, before-effort root room fs k old within is, ap (frames_effort root (k + suc room)) (take-set fs k new))
+    pub finished-effort : frames_effort root (k + suc room) (take k (set fs k new)) < frames_effort root (k + suc room) (take (k + 1) fs)
+    finished-effort =
+        omega (arith, before-effort root room fs k old within is, ap (frames_effort root (k + suc room)) (take-set fs k new))
 
-  pub stepped-effort : (n : ℕ) → frame_effort root room old ≡ n + frame_effort root room new
-      → frames_effort root (k + suc room) (take (k + 1) fs) ≡ n + frames_effort root (k + suc room) (take (k + 1) (set fs k new))
-  stepped-effort n step = omega (arith, before-effort root room fs k old within is, after-effort root room fs k new within)
+    pub stepped-effort : (n : ℕ) → frame_effort root room old ≡ n + frame_effort root room new
+        → frames_effort root (k + suc room) (take (k + 1) fs) ≡ n + frames_effort root (k + suc room) (take (k + 1) (set fs k new))
+    stepped-effort n step = omega (arith, before-effort root room fs k old within is, after-effort root room fs k new within)
 
 pub match-more : {X : Type 0} (o : Option X) {A C : Type 0} {B D : X → Type 0}
     → (A → C) → ((x : X) → B x → D x) → MatchOption o A B → MatchOption o C D

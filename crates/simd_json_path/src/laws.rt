@@ -7,8 +7,8 @@ ghost use Rattle.simd_json_path.specs.Paths.{selected};
 ghost use Rattle.simd_json_path.specs.Room.{frames_for, selected_within};
 ghost use Rattle.simd_json_path.specs.declared.path.Path.{Path};
 
-/// With as many frames as [`Path::frames`](crate::Path::frames) returns for the depth of a value, no
-/// item is an error, and what is selected is what RFC 9535 says.
+/// With as many frames as [`Path::frames`](crate::Path::frames) returns for the depth of a value,
+/// no item is an error, and what is selected is what RFC 9535 says.
 pub fn frames_suffice()
     ensures { (path : Path) (d : Document) (room : ℕ)
         → frames_for path (depth d) ≤ room

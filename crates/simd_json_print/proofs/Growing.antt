@@ -59,7 +59,8 @@ front k count bytes =
 
 -- what is begun of a beginning of the bytes
 pub part-begun : {E A : Type 0} (r : Result Unit E) (name capacity count : ℕ) (old : List ℕ) (new : Growing A) (bytes : List ℕ)
-    → HasEnded r (state name capacity old false) (state new.list.ghost_name new.capacity new.list.now.items new.has_failed) (take count bytes)
+    → HasEnded r (state name capacity old false) (state new.list.ghost_name new.capacity new.list.now.items new.has_failed)
+    (take count bytes)
     → (k : ℕ) × (new.list.now.items ≡ old ++ take k bytes)
 part-begun {E} (Ok u) name capacity count old new bytes ends =
     (count, (is-appended {E = E} (Ok u) name capacity old new (take count bytes) ends).all)

@@ -1,5 +1,6 @@
 -- The steps of the walk, by what is left of the containers that are open.
-use Rattle.std.proofs.Common.{◌≡◌, ◌∙◌, ap, ap₂, sym, refl, subst, ◌<◌, ◌≤◌, ◌+◌, ◌-◌, ◌^◌, ◌⊎◌, inl, inr, ℕ, suc, Bool, true, false, cond, List}
+use Rattle.std.proofs.Common.{◌≡◌, ◌∙◌, ap, ap₂, sym, refl, subst, ◌<◌, ◌≤◌, ◌+◌, ◌-◌, ◌^◌, ◌⊎◌, inl, inr, ℕ, suc, Bool, true, false}
+use Rattle.std.proofs.Common.{cond, List}
 use Rattle.std.proofs.Common.{[], ◌∷◌, ◌++◌, length, length-append, map, min, take, drop, get_or, set}
 use Rattle.std.proofs.Common.{append_assoc, append-nil, arith}
 use Rattle.std.proofs.lemmas.List.{get_or-set_other, get_or-set_same, length-map, take-map, drop-map}
@@ -229,7 +230,8 @@ module _ (p : Bool) (n : ℕ) (levels : List Level) (o : ℕ) (root : Document) 
       }
 
   -- with some, so the root nests deeper than what is open
-  pub deeper : (x : Item) (items : List Item) (done : List ℕ) → 0 < count_of x → IsAtValue p n levels o (x ∷ items) done root → o < depth root
+  pub deeper : (x : Item) (items : List Item) (done : List ℕ) → 0 < count_of x → IsAtValue p n levels o (x ∷ items) done root → o < depth
+      root
   deeper x items done some is =
       let c = is-opened p (n + length is.frames) x items (frames_listing is.frames) is.value is.listed some in
       omega (arith, is.number, is.within, c.deep, positive-depth c.frame)

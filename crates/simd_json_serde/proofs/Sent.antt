@@ -20,7 +20,8 @@ use Rattle.simd_json_serde.specs.declared.write_error.WriteError.TheVariants.{No
 use Rattle.simd_json_serde.specs.Noted.{then}
 use Rattle.simd_json_serde.specs.Written.{Part, whole, elements_part, members_part, named_part}
 use Rattle.simd_json_serde.specs.Written.{HasWritten, Steps, Sets, with_value, with_end, with_scalar, place_of, before}
-use Rattle.simd_json_serde.specs.Sent.{State, state, start, open_count, Moves, TakesUnit, TakesMap, Takes, TakesAll, IsSent, IsDocumentOf, IsTextOfEvents, IsPrinted}
+use Rattle.simd_json_serde.specs.Sent.{State, state, start, open_count, Moves, TakesUnit, TakesMap, Takes, TakesAll, IsSent, IsDocumentOf}
+use Rattle.simd_json_serde.specs.Sent.{IsTextOfEvents, IsPrinted}
 use Rattle.simd_json_serde.specs.WrittenOut.{WritesText}
 use Rattle.simd_json_serde.proofs.Writes.{last-of}
 

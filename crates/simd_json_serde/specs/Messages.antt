@@ -4,7 +4,9 @@ use Rattle.std.specs.Fmt.InlineText.{inline_text}
 use Rattle.simd_json_serde.specs.Words.{words, expected_words}
 use Rattle.simd_json_serde.specs.declared.error.Mismatch.{Mismatch}
 use Rattle.simd_json_serde.specs.declared.error.MismatchKind.{MismatchKind}
-use Rattle.simd_json_serde.specs.declared.error.MismatchKind.TheVariants.{InvalidType, InvalidValue, InvalidLength, MissingValue, MissingField, DuplicateField, UnknownField, UnknownVariant, Custom, OutOfMemory}
+use Rattle.simd_json_serde.specs.declared.error.MismatchKind.TheVariants.{InvalidType, InvalidValue, InvalidLength, MissingValue}
+use Rattle.simd_json_serde.specs.declared.error.MismatchKind.TheVariants.{MissingField, DuplicateField, UnknownField, UnknownVariant}
+use Rattle.simd_json_serde.specs.declared.error.MismatchKind.TheVariants.{Custom, OutOfMemory}
 
 abbrev pub path_of : Mismatch → List ℕ
 path_of m = string_bytes m.path

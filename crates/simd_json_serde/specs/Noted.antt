@@ -1,6 +1,7 @@
 -- What a `Note` makes of the events so far.
 use Rattle.std.specs.Prelude.{[], ◌∷◌, ◌++◌, Option, Some, None, option_and_then, option_map}
-use Rattle.serde.specs.Event.{Event, Log, boolean, signed, unsigned, single, double, character, text, octets, nothing, unit_variant, seq_begins, seq_ends, map_begins, map_ends, field_key, variant_key, key_begins, key_ends, flattens}
+use Rattle.serde.specs.Event.{Event, Log, boolean, signed, unsigned, single, double, character, text, octets, nothing, unit_variant}
+use Rattle.serde.specs.Event.{seq_begins, seq_ends, map_begins, map_ends, field_key, variant_key, key_begins, key_ends, flattens}
 use Rattle.simd_json_serde.specs.declared.log.Note.{Note}
 use Rattle.simd_json_serde.specs.declared.log.Note.TheVariants as note
 

@@ -181,7 +181,8 @@ impl<const PRETTY: u8> Draft<PRETTY> {
     pub(crate) fn end_array(&mut self) -> Result<(), WriteError>
         ensures put { OnOk result (Steps with_end self.old self.new) }
         ensures failed { OnErr result (self.new.place ≡ Place.Failed) }
-        ensures err { IfErr result (IsEndFault (ends_array self.old.place) self.old.containers.items) }
+        ensures err { IfErr result
+            (IsEndFault (ends_array self.old.place) self.old.containers.items) }
     {
         let place = self.place;
         self.place = Place::Failed;
@@ -201,7 +202,8 @@ impl<const PRETTY: u8> Draft<PRETTY> {
     pub(crate) fn end_object(&mut self) -> Result<(), WriteError>
         ensures put { OnOk result (Steps with_end self.old self.new) }
         ensures failed { OnErr result (self.new.place ≡ Place.Failed) }
-        ensures err { IfErr result (IsEndFault (takes_name self.old.place) self.old.containers.items) }
+        ensures err { IfErr result
+            (IsEndFault (takes_name self.old.place) self.old.containers.items) }
     {
         let place = self.place;
         self.place = Place::Failed;
@@ -300,7 +302,8 @@ impl<const PRETTY: u8> Draft<PRETTY> {
     pub(crate) fn put_bytes(&mut self, bytes: &[u8]) -> Result<(), WriteError>
         ensures put { OnOk result (Puts (array (integers bytes.now)) self.old self.new) }
         ensures failed { OnErr result (self.new.place ≡ Place.Failed) }
-        ensures err { IfErr result (λ e. (e ≡ WriteError.OutOfMemory) ⊎ (e ≡ WriteError.Misplaced)) }
+        ensures err { IfErr result
+            (λ e. (e ≡ WriteError.OutOfMemory) ⊎ (e ≡ WriteError.Misplaced)) }
     {
         self.begin_array()?;
         for byte in bytes {

@@ -1,7 +1,8 @@
 //! The steps of a read.
 ghost use Rattle.std.specs.Prelude.{◌≡◌, ◌≢◌, ◌⊎◌, ◌↔◌, ◌+◌, ℕ, true, false, length, slice_get};
 ghost use Rattle.std.specs.Prelude.{take, nat_lt, is_some, IsTrue, MatchBool, MatchOption};
-ghost use Rattle.std.specs.Prelude.{Some, None, IfOk, IfErr, OnOk, OnErr, encode_utf8, string_bytes};
+ghost use Rattle.std.specs.Prelude.{Some, None, IfOk, IfErr, OnOk, OnErr};
+ghost use Rattle.std.specs.Prelude.{encode_utf8, string_bytes};
 ghost use Rattle.std.specs.Result.{result_ok};
 ghost use Rattle.std.specs.Char.{IsScalar};
 ghost use Rattle.std.specs.Float.{binary32, binary64};
@@ -56,7 +57,8 @@ impl<'n, 'i> Format for NodeReader<'n, 'i> {
 
     #[inline(always)]
     fn i64(&mut self, _input: &[u8]) -> Result<i64, Fault>
-        ensures given { IfOk result (λ v. Reads (place self.old) (signed_event v) (place self.new)) }
+        ensures given { IfOk result
+            (λ v. Reads (place self.old) (signed_event v) (place self.new)) }
         ensures exact { self.old.at_key ≡ false
             → result_ok result ≡ ahead (signed 64) (place self.old) }
     {
@@ -76,7 +78,8 @@ impl<'n, 'i> Format for NodeReader<'n, 'i> {
 
     #[inline(always)]
     fn u64(&mut self, _input: &[u8]) -> Result<u64, Fault>
-        ensures given { IfOk result (λ v. Reads (place self.old) (unsigned_event v) (place self.new)) }
+        ensures given { IfOk result
+            (λ v. Reads (place self.old) (unsigned_event v) (place self.new)) }
         ensures exact { self.old.at_key ≡ false
             → result_ok result ≡ ahead (unsigned 64) (place self.old) }
     {
@@ -95,7 +98,8 @@ impl<'n, 'i> Format for NodeReader<'n, 'i> {
     }
 
     fn i128(&mut self, _input: &[u8]) -> Result<i128, Fault>
-        ensures given { IfOk result (λ v. Reads (place self.old) (signed_event v) (place self.new)) }
+        ensures given { IfOk result
+            (λ v. Reads (place self.old) (signed_event v) (place self.new)) }
         ensures exact { self.old.at_key ≡ false
             → result_ok result ≡ ahead (signed 128) (place self.old) }
     {
@@ -114,7 +118,8 @@ impl<'n, 'i> Format for NodeReader<'n, 'i> {
     }
 
     fn u128(&mut self, _input: &[u8]) -> Result<u128, Fault>
-        ensures given { IfOk result (λ v. Reads (place self.old) (unsigned_event v) (place self.new)) }
+        ensures given { IfOk result
+            (λ v. Reads (place self.old) (unsigned_event v) (place self.new)) }
         ensures exact { self.old.at_key ≡ false
             → result_ok result ≡ ahead (unsigned 128) (place self.old) }
     {

@@ -78,9 +78,9 @@
 //! fails for memory, out of place, or for a key or a float without text, and for nothing else
 //! (`specs/WriteFaults.antt`).
 //!
-//! Not proved, but tested beside `serde_json`: that a derived type is read as the document says, and
-//! what it sends, since derives have no contract; the path of a mismatch; that [`read`] gives up no
-//! capacity of its [`Texts`], which are lent to the type.
+//! Not proved, but tested beside `serde_json`: that a derived type is read as the document says,
+//! and what it sends, since derives have no contract; the path of a mismatch; that [`read`] gives up
+//! no capacity of its [`Texts`], which are lent to the type.
 #![tactic(auto)]
 
 mod draft;

@@ -18,8 +18,8 @@
 //! ```
 //!
 //! Beside `machine`, `progress` holds how far it is, `stack` the open containers, `builder` what it
-//! reads and writes: an `input`, and the sink of `nodes`. `scalar` reads the values of one node, and
-//! `fault` is how it rejects a token.
+//! reads and writes: an `input`, and the sink of `nodes`. `scalar` reads the values of one node,
+//! and `fault` is how it rejects a token.
 //!
 //! Where it differs from simdjson: nodes go to a sink of the caller's choice, not to words of a
 //! tape; strings are not copied into a buffer, but shared with the input, and decoded in place if

@@ -144,7 +144,8 @@ module _ {b ps : List ℕ} {p : Progress} (e : ps ≡ positions b) where
   next-ahead {q = q} kept n h more = kept _ _ h (omega (arith, ap (λ (q : Progress). q.at) n.same, later b ps e q n.read more))
 
   -- what is after a string can be read from the next position on
-  pub string-ahead : {reads : ℕ → Type 0} {nodes nodes' : List Item} → IsKept reads → IsRead b ps p → Contains (tokens b) (token b p.at) → p.byte ≡ 34
+  pub string-ahead : {reads : ℕ → Type 0} {nodes nodes' : List Item} → IsKept reads → IsRead b ps p → Contains (tokens b) (token b p.at) →
+      p.byte ≡ 34
       → IsStringPut b p.at nodes nodes' reads → p.read < length ps → reads (get_or ps p.read 0)
   string-ahead kept r c quote put more = kept _ _ put.input (ends-before b ps e p put.end r c
       (ap (form_end p.at) (quotes b p.at (sym r.first ∙ quote) ∙ ap string_token put.read)) more)
@@ -172,7 +173,8 @@ module _ {b ps : List ℕ} {p : Progress} (e : ps ≡ positions b) where
       }
 
   -- after a first token that closes its container at once
-  pub after-first : {reads : ℕ → Type 0} {reads' : ℕ → Type 0} {q : Progress} (nodes nodes' : List Item) (x : Item) → nodes' ≡ nodes ++ x ∷ []
+  pub after-first : {reads : ℕ → Type 0} {reads' : ℕ → Type 0} {q : Progress} (nodes nodes' : List Item) (x : Item) → nodes' ≡ nodes ++ x
+      ∷ []
       → IsKept reads' → ((i : ℕ) → reads i → reads' i) → IsBefore b ps reads (length nodes) p → IsNext b ps p q
       → IsAfter b ps reads' (length nodes') (record q { len = q.len + 1 })
   after-first {reads' = reads'} nodes nodes' x put kept still r n =

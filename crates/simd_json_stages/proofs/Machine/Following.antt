@@ -40,7 +40,8 @@ module _ {b ps : List ℕ} {p q : Progress} (e : ps ≡ positions b) where
       })
 
   -- after a name and its colon
-  pub named-progress : {reads reads' : ℕ → Type 0} {s : Progress} → IsKept reads' → (nodes nodes' : List Item) (x : Item) → nodes' ≡ nodes ++ x ∷ []
+  pub named-progress : {reads reads' : ℕ → Type 0} {s : Progress} → IsKept reads' → (nodes nodes' : List Item) (x : Item) → nodes' ≡ nodes
+      ++ x ∷ []
       → IsBefore b ps reads (length nodes) p → reads' (get_or ps p.read 0) → IsNext b ps p q → IsNext b ps q s
       → IsBefore b ps reads' (length nodes') s
   named-progress {reads' = reads'} kept nodes nodes' x put r ahead n m =
@@ -57,7 +58,8 @@ module _ {b ps : List ℕ} {p q : Progress} (e : ps ≡ positions b) where
 
   -- after a closing bracket
   pub closed-after : {reads reads' : ℕ → Type 0} {written now : ℕ} {q' : Progress} (stack : List StackState) → now ≡ written
-      → IsKept reads' → ((i : ℕ) → reads i → reads' i) → IsAfter b ps reads written p → 0 < p.depth → (top stack p.depth).len < written → IsNext b ps p q → q' ≡ closed_at stack q
+      → IsKept reads' → ((i : ℕ) → reads i → reads' i) → IsAfter b ps reads written p → 0 < p.depth → (top stack p.depth).len < written →
+      IsNext b ps p q → q' ≡ closed_at stack q
       → IsAfter b ps reads' now q'
   closed-after {reads' = reads'} {now = now} stack same kept still r some fewer n is =
       subst (IsAfter b ps reads' now) (sym (is ∙ ap (closed_at stack) n.same))

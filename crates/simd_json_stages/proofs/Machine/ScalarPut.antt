@@ -114,7 +114,8 @@ pub decimal-here : (b : List ℕ) (i : ℕ) (literal : List ℕ) (end : ℕ) →
 decimal-here b i literal end l is = subst (FormHere b) is (form-here b i l)
 
 -- so its literal can be shared, and is put
-module _ {b : List ℕ} (can_read : List ℕ → ℕ → Type 0) {capacity written : ℕ} {p : Progress} (given : AtNumber b (can_read b) capacity written p)
+module _ {b : List ℕ} (can_read : List ℕ → ℕ → Type 0) {capacity written : ℕ} {p : Progress}
+    (given : AtNumber b (can_read b) capacity written p)
   where
     pub decimal-asked : (len : ℕ) → number_at b p.at ≡ Ok (decimal (take len (drop p.at b)), p.at + len) → HasString can_read p.at len
     decimal-asked len is =

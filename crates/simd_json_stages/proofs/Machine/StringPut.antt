@@ -66,63 +66,64 @@ string_at-fault b i e h = string_read-fault (read_pieces 0 (slice_range b (suc i
 -- ---- the string at the last token
 
 -- as `push_string` is called, where `next` is the next position or the end of the input
-module _ {b : List ℕ} {r : Route} {reads : ℕ → Type 0} {capacity written : ℕ} {p : Progress} (at : AtString b r reads capacity written p) where
-  none : input_fault b ≡ None
-  none = at.on_route.whole
+module _ {b : List ℕ} {r : Route} {reads : ℕ → Type 0} {capacity written : ℕ} {p : Progress} (at : AtString b r reads capacity written p)
+  where
+    none : input_fault b ≡ None
+    none = at.on_route.whole
 
-  read : IsRead b (positions b) p
-  read = subst (λ ps. IsRead b ps p) at.on_route.positions at.read
+    read : IsRead b (positions b) p
+    read = subst (λ ps. IsRead b ps p) at.on_route.positions at.read
 
-  opening : byte_at b p.at ≡ quote
-  opening = sym read.first ∙ at.opening
+    opening : byte_at b p.at ≡ quote
+    opening = sym read.first ∙ at.opening
 
-  pub at-within : p.at < length b
-  at-within = at-inside b p read
+    pub at-within : p.at < length b
+    at-within = at-inside b p read
 
-  closed : closing_quote b p.at < length b
-  closed = string-closed b p.at (at-position b p read) opening none
+    closed : closing_quote b p.at < length b
+    closed = string-closed b p.at (at-position b p read) opening none
 
-  unfold-real : (k : ℕ) → is_real_quote b k ≡ true → ((byte_at b k == quote) && is_even (backslashes_before b k)) ≡ true
-  unfolding is_real_quote
-  unfold-real k h = h
+    unfold-real : (k : ℕ) → is_real_quote b k ≡ true → ((byte_at b k == quote) && is_even (backslashes_before b k)) ≡ true
+    unfolding is_real_quote
+    unfold-real k h = h
 
-  quoted : byte_at b (closing_quote b p.at) ≡ quote
-  quoted = eqb-true _ quote (and_parts _ _ (unfold-real (closing_quote b p.at) ((closing_quote-next b p.at).2 closed))).0
+    quoted : byte_at b (closing_quote b p.at) ≡ quote
+    quoted = eqb-true _ quote (and_parts _ _ (unfold-real (closing_quote b p.at) ((closing_quote-next b p.at).2 closed))).0
 
-  -- the next position is after the byte that follows the opening quote
-  later : (next : ℕ) → next ≡ get_or (positions b) p.read (length b) → Contains (positions b) next ⊎ (next ≡ length b) → p.at + 1 < next
-  later next is there =
-      let before : p.at < next = omega (arith, is, at-before_next b p read) in
-      elim (cases_lt (suc p.at) next) [
-        | inl h ↦ omega arith
-        | inr h ↦
-            let same : next ≡ suc p.at = omega arith in
-            elim there [
-              | inl c ↦ absurd (false≢true (sym (no_position-after b p.at
-                  (opened b p.at ((Contains-positions b p.at).0 (at-position b p read)).1 opening))
-                  ∙ ap (is_position b) (sym same) ∙ ((Contains-positions b next).0 c).1))
-              | inr last ↦ absurd (omega (arith, closed, (closing_quote-next b p.at).0, last, same))
-            ]
-      ]
+    -- the next position is after the byte that follows the opening quote
+    later : (next : ℕ) → next ≡ get_or (positions b) p.read (length b) → Contains (positions b) next ⊎ (next ≡ length b) → p.at + 1 < next
+    later next is there =
+        let before : p.at < next = omega (arith, is, at-before_next b p read) in
+        elim (cases_lt (suc p.at) next) [
+          | inl h ↦ omega arith
+          | inr h ↦
+              let same : next ≡ suc p.at = omega arith in
+              elim there [
+                | inl c ↦ absurd (false≢true (sym (no_position-after b p.at
+                    (opened b p.at ((Contains-positions b p.at).0 (at-position b p read)).1 opening))
+                    ∙ ap (is_position b) (sym same) ∙ ((Contains-positions b next).0 c).1))
+                | inr last ↦ absurd (omega (arith, closed, (closing_quote-next b p.at).0, last, same))
+              ]
+        ]
 
-  -- its closing quote is the last one before that
-  pub string-before : {next end : ℕ} → next ≡ get_or r.indexes.now p.read end → end ≡ length b → IsStringBefore b p.at next
-  string-before {next} is' whole =
-      let is : next ≡ get_or (positions b) p.read (length b) = is' ∙ ap (get_or r.indexes.now p.read) whole
-      ∙ ap (λ ps. get_or ps p.read (length b)) at.on_route.positions in
-      let there : Contains (positions b) next ⊎ (next ≡ length b) = subst (λ n. Contains (positions b) n ⊎ (n ≡ length b))
-      (sym is) (next-there b p) in
-      let ends = string-ends b (token b p.at) next at.token opening closed (later next is there) there
-      (λ (j : ℕ) (f : p.at < j) (t : j < next). none-between b p read j f (omega (arith, is))) in
-      record {
-        opening = opening;
-        closing = quoted;
-        later = omega (arith, (closing_quote-next b p.at).0);
-        closed = ends.0;
-        within = omega (arith, is, next-inside b p);
-        last = ends.1;
-        utf8 = string-utf8 b p.at at-within opening none;
-      }
+    -- its closing quote is the last one before that
+    pub string-before : {next end : ℕ} → next ≡ get_or r.indexes.now p.read end → end ≡ length b → IsStringBefore b p.at next
+    string-before {next} is' whole =
+        let is : next ≡ get_or (positions b) p.read (length b) = is' ∙ ap (get_or r.indexes.now p.read) whole
+        ∙ ap (λ ps. get_or ps p.read (length b)) at.on_route.positions in
+        let there : Contains (positions b) next ⊎ (next ≡ length b) = subst (λ n. Contains (positions b) n ⊎ (n ≡ length b))
+        (sym is) (next-there b p) in
+        let ends = string-ends b (token b p.at) next at.token opening closed (later next is there) there
+        (λ (j : ℕ) (f : p.at < j) (t : j < next). none-between b p read j f (omega (arith, is))) in
+        record {
+          opening = opening;
+          closing = quoted;
+          later = omega (arith, (closing_quote-next b p.at).0);
+          closed = ends.0;
+          within = omega (arith, is, next-inside b p);
+          last = ends.1;
+          utf8 = string-utf8 b p.at at-within opening none;
+        }
 
-  pub bad-within : (offset letter : ℕ) → string_at b p.at ≡ Err (escape_fault (p.at + offset) letter) → p.at + offset < length b
-  bad-within offset letter e = omega (arith, closed, string_at-fault b p.at (escape_fault (p.at + offset) letter) e)
+    pub bad-within : (offset letter : ℕ) → string_at b p.at ≡ Err (escape_fault (p.at + offset) letter) → p.at + offset < length b
+    bad-within offset letter e = omega (arith, closed, string_at-fault b p.at (escape_fault (p.at + offset) letter) e)

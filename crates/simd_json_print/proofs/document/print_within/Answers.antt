@@ -11,7 +11,8 @@ returns g c =
       given = λ d is. on-ok c.put_growing-put.result _ _
           (λ adds. let ends = c.finish.ensures start _ (adds.given start [] c.new-out.ensures.empty) in search rules) (p.given d is);
       begun = λ d is. on-err c.put_growing-put.result _ _
-          (λ adds. (adds.0, let ends = c.finish.ensures start _ (adds.1.given start [] c.new-out.ensures.empty) in search rules)) (p.begun d is);
+          (λ adds. (adds.0, let ends = c.finish.ensures start _ (adds.1.given start [] c.new-out.ensures.empty) in search rules))
+          (p.begun d is);
       lacking = p.lacking;
       longer = p.longer;
     }

@@ -4,4 +4,5 @@ use Rattle.simd_json_print.proofs.document.levels.keep.Goals as goal
 
 pub returns-clause-kept : goal.returns-clause-kept
 returns-clause-kept g c =
-    ap (take (length c.args.outer.now)) (sym (put-back _ c.store.new.levels _ _ refl (omega (arith, c.as_mut_slice.ensures.len)))) ∙ c.store.ensures
+    ap (take (length c.args.outer.now)) (sym (put-back _ c.store.new.levels _ _ refl (omega (arith, c.as_mut_slice.ensures.len)))) ∙
+    c.store.ensures

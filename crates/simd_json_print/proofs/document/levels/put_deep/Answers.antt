@@ -59,7 +59,8 @@ returns-in_err-lengthen_past-clause-given g c done root deep is =
     let few : length c.args.levels.now.items < depth root = omega (arith, full, below, l.invariant.2) in (
       so_far.0,
       so_far.1,
-      failed _ _ _ _ (c.from_residual-in_err-lengthen_past.ensures.1) (at-prefix pretty 0 levels l.count items (done ++ so_far.0) root at, few),
+      failed _ _ _ _ (c.from_residual-in_err-lengthen_past.ensures.1)
+          (at-prefix pretty 0 levels l.count items (done ++ so_far.0) root at, few),
     )
 
 pub loop-value-preserved : goal.loop-value-preserved
@@ -91,7 +92,8 @@ loop-value-preserved g c =
 pub loop-value-smaller : goal.loop-value-smaller
 loop-value-smaller g c =
     let p = c.put_listed-value in
-    smaller c.lengthen_past.new.levels.items p.new.levels.items c.loop-value.count p.new.count c.loop-value.value.nodes.now p.result.nodes.now
+    smaller c.lengthen_past.new.levels.items p.new.levels.items c.loop-value.count p.new.count c.loop-value.value.nodes.now
+    p.result.nodes.now
     (c.in_ok-lengthen_past.ensures.past) p.ensures.levels p.ensures.room (omega (arith, c.loop-value.invariant.1)) (search (rules, arith))
     p.ensures.deep
 
@@ -102,5 +104,6 @@ returns-clause-given g c done root deep is =
     let so_far = l.invariant.5 done root deep is in (
       so_far.0,
       so_far.1,
-      at-end pretty 0 l.levels.items l.count root (map item_of l.value.nodes.now) (done ++ so_far.0) (search (rules, arith, length-map)) so_far.2,
+      at-end pretty 0 l.levels.items l.count root (map item_of l.value.nodes.now) (done ++ so_far.0) (search (rules, arith, length-map))
+          so_far.2,
     )

@@ -8,8 +8,10 @@ pub returns-clause-given : goal.returns-clause-given
 returns-clause-given g c done root is =
     let pretty = not (nat_eq g.row.PRETTY 0) in
     let left = map item_of c.put_from-left.result.nodes.now in
-    let at = subst (λ k. IsAtValue pretty 0 c.over-nesting.result.levels.now k (map item_of c.args.value.nodes.now) done root) (sym c.over-nesting.ensures.count)
-    (subst (λ ls. IsAtValue pretty 0 ls c.args.count.now (map item_of c.args.value.nodes.now) done root) (sym c.over-nesting.ensures.levels) is) in
+    let at = subst (λ k. IsAtValue pretty 0 c.over-nesting.result.levels.now k (map item_of c.args.value.nodes.now) done root)
+    (sym c.over-nesting.ensures.count)
+    (subst (λ ls. IsAtValue pretty 0 ls c.args.count.now (map item_of c.args.value.nodes.now) done root)
+    (sym c.over-nesting.ensures.levels) is) in
     let next = c.put_from-left.ensures.given done root at in (
       next.0,
       next.1,

@@ -65,11 +65,13 @@ put_value_within-loop-nesting-preserved g t c =
           (search (rules, arith, length-map)) so_far.2 in
           let next = f.ensures.given so_far.0 d at in
           let done = so_far.0 ++ next.0 in
-          let deep = at-value pretty c.args.depth levels count d (map item_of ns) done (omega (arith, some, length-map ns item_of)) next.2 in
+          let deep = at-value pretty c.args.depth levels count d (map item_of ns) done (omega (arith, some, length-map ns item_of)) next.2
+          in
           let more = some-beneath pretty c.args.depth levels count d ns first rest _ _ _ done some c.split_at.ensures.front
           c.split_at.ensures.back c.beneath.ensures c.min-count.ensures deep f.ensures.deep in
           let apart = apart-step pretty c.args.depth levels count d ns first rest _ _ _ done some c.split_at.ensures.front
-          c.split_at.ensures.back c.beneath.ensures c.min-count.ensures deep v.result.0.now v.result.1.now more v.ensures.front v.ensures.back in
+          c.split_at.ensures.back c.beneath.ensures c.min-count.ensures deep v.result.0.now v.result.1.now more v.ensures.front
+          v.ensures.back in
           let value = text pretty apart.document (c.args.depth + count) in
           let put = c.put_value.ensures.given apart.document apart.listed in
           let after = u.ensures.given (done ++ value) d apart.after in (

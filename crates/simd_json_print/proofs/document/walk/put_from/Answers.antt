@@ -61,5 +61,6 @@ returns-then-next-clause-given g c done root is =
     let same = c.put_next-next.ensures.same (search rules) in (
       so_far.0,
       subst (λ o. Adds g.T.Target.state c.args.out.now o so_far.0) (sym same.1) so_far.1,
-      subst (λ o. IsNext pretty c.args.depth o.levels.now o.count (map item_of l.value.nodes.now) (done ++ so_far.0) root) (sym same.0) so_far.2,
+      subst (λ o. IsNext pretty c.args.depth o.levels.now o.count (map item_of l.value.nodes.now) (done ++ so_far.0) root) (sym same.0)
+          so_far.2,
     )

@@ -12,7 +12,8 @@ invariant_of-self-then-self g c =
     let deep : c.len.result ≡ length self.draft.containers.items = search rules in
     let pushed : c.extend_from_slice.new.self.items ≡ self.flat.items ++ c.len.result ∷ [] = search rules in
     record {
-      sent = marked self.draft _ (state self.at_key false c.extend_from_slice.new.self.items) (map_begins c.args.len) _ _ c.then-self.ensures
+      sent = marked self.draft _ (state self.at_key false c.extend_from_slice.new.self.items) (map_begins c.args.len) _ _
+          c.then-self.ensures
           (λ parts h. map-flat _ _ c.args.len c.len.result c.if-self.true (deep ∙ ap length h.containers)
           (ap (λ flat. state self.at_key false flat parts) pushed)) self.sent;
     }

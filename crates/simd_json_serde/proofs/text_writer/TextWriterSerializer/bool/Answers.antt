@@ -8,6 +8,8 @@ use Rattle.simd_json_serde.proofs.text_writer.TextWriterSerializer.bool.Goals as
 
 pub invariant_of-self : goal.invariant_of-self
 invariant_of-self g c = record {
-  sent = sent c.set_bool.result (with_scalar c.args.self.now.at_key (boolean c.args.v) (truth_text c.args.v)) _ _ _ _ (event.boolean c.args.v) _ _
-      c.then-self.ensures c.set_bool.ensures.put c.set_bool.ensures.failed (λ parts h. (c.in_ok-reject_flat.ensures.flat, refl)) c.args.self.now.sent;
+  sent = sent c.set_bool.result (with_scalar c.args.self.now.at_key (boolean c.args.v) (truth_text c.args.v)) _ _ _ _
+      (event.boolean c.args.v) _ _
+      c.then-self.ensures c.set_bool.ensures.put c.set_bool.ensures.failed (λ parts h. (c.in_ok-reject_flat.ensures.flat, refl))
+      c.args.self.now.sent;
 }

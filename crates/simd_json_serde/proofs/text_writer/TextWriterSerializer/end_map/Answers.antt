@@ -22,7 +22,8 @@ invariant_of-self-2 g c =
     let self = c.args.self.now in
     let deep : c.len.result ≡ length self.draft.containers.items = search rules in
     let none : (rest : List ℕ) → ¬ (self.flat.items ≡ rest ++ c.len.result ∷ []) = λ rest last.
-    let seen : slice_get self.flat.items (length self.flat.items - 1) ≡ Some c.len.result = last-is self.flat.items rest c.len.result last in
+    let seen : slice_get self.flat.items (length self.flat.items - 1) ≡ Some c.len.result = last-is self.flat.items rest c.len.result last
+    in
     grind (arith, common_steps) in
     record {
       sent = sent c.end_object.result with_end _ _ _ (state self.at_key self.flattens self.flat.items) map_ends _ _ c.then-self.ensures

@@ -8,6 +8,8 @@ use Rattle.simd_json_serde.proofs.text_writer.TextWriterSerializer.u64.Goals as 
 
 pub invariant_of-self : goal.invariant_of-self
 invariant_of-self g c = record {
-  sent = sent c.set_u64.result (with_scalar c.args.self.now.at_key (integer false c.args.v) (decimal c.args.v)) _ _ _ _ (event.unsigned c.args.v) _ _
-      c.then-self.ensures c.set_u64.ensures.put c.set_u64.ensures.failed (λ parts h. (c.in_ok-reject_flat.ensures.flat, refl)) c.args.self.now.sent;
+  sent = sent c.set_u64.result (with_scalar c.args.self.now.at_key (integer false c.args.v) (decimal c.args.v)) _ _ _ _
+      (event.unsigned c.args.v) _ _
+      c.then-self.ensures c.set_u64.ensures.put c.set_u64.ensures.failed (λ parts h. (c.in_ok-reject_flat.ensures.flat, refl))
+      c.args.self.now.sent;
 }

@@ -13,7 +13,8 @@ pub push_decimal-requires-clause-literal : goal.push_decimal-requires-clause-lit
 push_decimal-requires-clause-literal g c =
     let b = g.K.Original.bytes in
     let after = sym (c.from-rest.ensures.bytes b c.requires.at.input) in
-    decimal-asked (λ b. g.B.Builder.reads b c.args.builder.now) c.requires c.in-Decimal.len (subst (IsNumeralAt b c.args.p.at) c.in-Decimal.is (elim c.match-parse_short.branch [
+    decimal-asked (λ b. g.B.Builder.reads b c.args.builder.now) c.requires c.in-Decimal.len
+    (subst (IsNumeralAt b c.args.p.at) c.in-Decimal.is (elim c.match-parse_short.branch [
       | in-Some w ↦ rw w.numeral-is (w.in-Some.ensures b c.args.p.at after)
       | in-None w ↦ rw w.numeral-is (w.parse_numeral-numeral.ensures b c.args.p.at after)
     ]))
@@ -23,7 +24,8 @@ returns-in-Decimal-clause-put g c =
     let b = g.K.Original.bytes in
     let input = c.requires.at.input in
     let after = sym (c.from-rest.ensures.bytes b input) in
-    decimal-put (λ b. g.B.Builder.reads b c.args.builder.now) c.requires c.in-Decimal.len (subst (IsNumeralAt b c.args.p.at) c.in-Decimal.is (elim c.match-parse_short.branch [
+    decimal-put (λ b. g.B.Builder.reads b c.args.builder.now) c.requires c.in-Decimal.len
+    (subst (IsNumeralAt b c.args.p.at) c.in-Decimal.is (elim c.match-parse_short.branch [
       | in-Some w ↦ rw w.numeral-is (w.in-Some.ensures b c.args.p.at after)
       | in-None w ↦ rw w.numeral-is (w.parse_numeral-numeral.ensures b c.args.p.at after)
     ])) (c.push_decimal.ensures.put b input) (c.push_decimal.ensures.reads b input)

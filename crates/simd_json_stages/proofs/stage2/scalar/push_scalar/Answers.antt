@@ -43,7 +43,8 @@ returns-then-p-eq110-clause-put g c =
     let b = g.K.Original.bytes in
     let given = c.requires in
     static-put null fixed.Null (c.args.p.at + 4) (c.push_static.ensures.reads b _ given.at.input)
-    (form_at-null b c.from-rest.result.now c.args.p.at (sym (c.from-rest.ensures.bytes b given.at.input)) (sym given.at.first ∙ c.if-p-eq110.true)
+    (form_at-null b c.from-rest.result.now c.args.p.at (sym (c.from-rest.ensures.bytes b given.at.input))
+    (sym given.at.first ∙ c.if-p-eq110.true)
     (sym c.is_valid_null_atom.ensures ∙ c.if-not-is_valid_null_atom.false)) refl c.push_static.ensures.put
 
 pub returns-in-None-clause-rejected : goal.returns-in-None-clause-rejected

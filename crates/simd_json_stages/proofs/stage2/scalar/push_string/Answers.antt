@@ -34,4 +34,5 @@ pub returns-in-Err-clause-rejected : goal.returns-in-Err-clause-rejected
 returns-in-Err-clause-rejected g c =
     let b = g.K.Original.bytes in
     let whole = c.end.ensures b _ c.requires.input in
-    c.in-Err.ensures.put b c.requires.input (string-before c.requires c.position_or_end-next.ensures whole) ∙ ap Err (sym c.bad_escape.ensures)
+    c.in-Err.ensures.put b c.requires.input (string-before c.requires c.position_or_end-next.ensures whole) ∙ ap Err
+    (sym c.bad_escape.ensures)

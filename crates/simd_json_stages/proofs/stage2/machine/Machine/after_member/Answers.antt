@@ -25,7 +25,8 @@ next_token-requires-then-q-eq44 g c =
     record {
       on_route = last.on_route;
       read = next.read;
-      input = next-ahead last.on_route.positions (g.met.B.Builder.later g.K.Original.bytes c.args.builder.now) next (last.progress.input next.more);
+      input = next-ahead last.on_route.positions (g.met.B.Builder.later g.K.Original.bytes c.args.builder.now) next
+          (last.progress.input next.more);
     }
 
 pub returns-in_err-next_token-clause-rejected : goal.returns-in_err-next_token-clause-rejected
@@ -46,7 +47,8 @@ returns-then-q-eq44-clause-followed g c =
     let m = c.in_ok-next_token.ensures.next in
     let l = two-advances n m in
     at-member g.K.Original.bytes c.args.route c.args.self.now _ _ _ _ kinds.ExpectedObjectKey last.on_route last.capacities
-    (comma-progress last.on_route.positions (g.met.B.Builder.later g.K.Original.bytes c.args.builder.now) last.progress n m) (omega (arith, l.1, last.depth)) (omega (arith, l.1, c.requires.inside))
+    (comma-progress last.on_route.positions (g.met.B.Builder.later g.K.Original.bytes c.args.builder.now) last.progress n m)
+    (omega (arith, l.1, last.depth)) (omega (arith, l.1, c.requires.inside))
     (step-comma last.after c.requires.inside n c.if-q-eq44.true m)
 
 pub returns-then-q-closer-clause-rejected : goal.returns-then-q-closer-clause-rejected

@@ -5,7 +5,8 @@ use Rattle.simd_json_stages.proofs.stage2.machine.Machine.elements.Given as goal
 
 abbrev pub invariant-values : goal.invariant-values
 invariant-values g l = record {
-  element : AtElement g.K.Original.bytes l.route l.self (g.B.Builder.reads g.K.Original.bytes l.builder) (g.B.Builder.node_room l.builder) (g.B.Builder.held_nodes l.builder) l.p;
+  element : AtElement g.K.Original.bytes l.route l.self (g.B.Builder.reads g.K.Original.bytes l.builder) (g.B.Builder.node_room l.builder)
+      (g.B.Builder.held_nodes l.builder) l.p;
   further : l.fn.first.read ≤ l.p.read;
   sink : SameSink g.B.Builder.node_room g.B.Builder.lender l.fn.builder l.builder;
   stack : length l.self.stack.now ≡ length l.fn.self.stack.now;

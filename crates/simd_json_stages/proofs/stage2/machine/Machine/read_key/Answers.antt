@@ -89,7 +89,8 @@ returns-clause-value g c =
     record {
       on_route = given.on_route;
       capacities = subst (HasCapacity _ _ _) (sym c.in_ok-push_string.ensures.sink.0) given.capacities;
-      progress = named-progress e kept _ _ _ put.put r (string-ahead e kept r.read (name-token e given.name) c.if-p-ne34.false put n.more) n m;
+      progress = named-progress e kept _ _ _ put.put r (string-ahead e kept r.read (name-token e given.name) c.if-p-ne34.false put n.more)
+          n m;
       depth = omega (arith, (two-advances n m).1, given.depth);
       value = step-name given.name r.read.first c.if-p-ne34.false put n c.if-colon-ne58.false m;
     }
