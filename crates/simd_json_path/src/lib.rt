@@ -50,8 +50,8 @@
 //!
 //! A frame is a value at which a segment goes on. [`Path::frames`] returns how many suffice: one
 //! for each segment, and if one is a descendant segment, one for each level of the document
-//! besides. With fewer nothing is left out silently: in the place of what lies beneath a value for which
-//! no frame is left, the iterator returns [`TooFewFrames`], and goes on after it.
+//! besides. With fewer nothing is left out silently: in the place of what lies beneath a value for
+//! which no frame is left, the iterator returns [`TooFewFrames`], and goes on after it.
 //!
 //! # What is proved
 //!

@@ -79,8 +79,8 @@
 //! (`specs/WriteFaults.antt`).
 //!
 //! Not proved, but tested beside `serde_json`: that a derived type is read as the document says,
-//! and what it sends, since derives have no contract; the path of a mismatch; that [`read`] gives up
-//! no capacity of its [`Texts`], which are lent to the type.
+//! and what it sends, since derives have no contract; the path of a mismatch; that [`read`] gives
+//! up no capacity of its [`Texts`], which are lent to the type.
 #![tactic(auto)]
 
 mod draft;
