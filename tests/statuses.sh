@@ -67,8 +67,8 @@ nested() {
     sed 's/^/    standard error: /' "$room/err"
 }
 
-# Neither a parse nor printing recurses: four million containers are printed with little stack.
-nested 2000000 64
+# Neither a parse nor printing recurses: four million containers are printed with the stack that a small document takes.
+nested 2000000 256
 
 # What is rejected is reported, and nothing is written.
 for mode in tape positions compact pretty; do

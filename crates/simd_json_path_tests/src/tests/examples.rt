@@ -1,4 +1,4 @@
-// The examples of the crate's page and of docs/READING.md, as they stand there.
+// The example of the crate's page, as it stands there, and one of a descendant segment.
 use crate::tests::Tested;
 use simd_json::to_tape;
 
