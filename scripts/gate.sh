@@ -114,7 +114,7 @@ count() {
 }
 
 if [ "$mode" != edits ]; then
-    setsid nice sh tests/unit.sh > build/log/tests 2>&1 &
+    setsid sh tests/unit.sh > build/log/tests 2>&1 &
     beside=$!
 fi
 (cd "$gate" && rt ci ${ANEW:+--anew}) 2>&1 | tee build/log/gate

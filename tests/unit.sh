@@ -11,7 +11,8 @@ room=$(mktemp -d) || exit 1
 trap 'rm -rf "$room"' EXIT
 trap 'exit 1' HUP INT TERM
 
-words='--seconds 600'
+# The time that a test has is for two processors which proofs and edits keep busy.
+words='--seconds 1200'
 if [ "${1:-}" = long ]; then
     # A file `long` where they run is what such tests look for. Half a million nested containers are printed by calls that take
     # several times the stack where they are compiled with checks.

@@ -129,7 +129,9 @@ class Memory(unittest.TestCase):
             once()
         gc.collect()
         after = sys.getrefcount(None), len(gc.get_objects())
-        self.assertLess(abs(after[0] - before[0]), 100)
+        # From 3.12 on None is never freed and the interpreter does not count it, but a module for 3.10 and later does.
+        if sys.version_info < (3, 12):
+            self.assertLess(abs(after[0] - before[0]), 100)
         self.assertLess(abs(after[1] - before[1]), 100)
 
 
