@@ -259,8 +259,8 @@ enum {
  * compact text `len` bytes of out are always enough.
  * Any other status: *needed and out are unchanged. The first that fits is returned: PARSER_CLOSED; NO_VALUE of a pointer that
  * is not UTF-8; the error of the input; NO_VALUE of a pointer that names no value; OUT_OF_MEMORY, where there is none for the
- * text. By the first two the input is not read and not written. The parser stays open after each status, and where what it
- * keeps suffices, nothing is allocated. */
+ * text, or for containers that are open past 64 at a time. By the first two the input is not read and not written. The parser
+ * stays open after each status, and where what it keeps suffices, nothing is allocated. */
 int32_t simd_json_parser_print(simd_json_parser *parser, void *input, size_t len, const void *pointer, size_t pointer_len,
                                uint32_t layout, void *out, size_t out_len, size_t *needed, simd_json_place *place);
 

@@ -265,8 +265,8 @@ fn reservations_fail(rt: HostRuntime) {
     assert_eq!(rt; tape.nodes().len(), 3);
 }
 
-// Over an empty tape a reservation succeeds where there is memory, and the next one of as much takes
-// none.
+// Over an empty tape a reservation succeeds where there is memory, and the next one of as much
+// takes none.
 #[test]
 fn an_empty_tape_is_reserved(rt: HostRuntime) {
     let mut input = *b"[1,2]";
