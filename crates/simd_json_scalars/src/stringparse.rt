@@ -1,13 +1,13 @@
 //! Reads one string, decoded in the bytes it was written in, or one escape (RFC 8259, section 7).
 ghost use Rattle.std.specs.Prelude.{◌≡◌, ◌≤◌, ◌<◌, ◌+◌, ℕ, List, length, drop, map, MatchResult};
-ghost use Rattle.std.specs.Prelude.{IsUtf8, false};
+ghost use Rattle.std.specs.Prelude.{IfOk, IsUtf8, false};
 ghost use Rattle.std.specs.List.{prefix_len, copy_within};
 ghost use Rattle.std.specs.Simd.Lanes.{mask_l};
 ghost use Rattle.simd_json_parts.specs.Bytes.{quote, byte_at};
 ghost use Rattle.simd_json_parts.specs.StringAt.{closing_quote};
 ghost use Rattle.simd_json_scalars.specs.StringContent.{is_plain, is_stop};
 ghost use Rattle.simd_json_scalars.specs.StringDecoded.{IsOpen, IsDecoded, IsLeft};
-ghost use Rattle.simd_json_scalars.specs.StringRead.{IsStringAt};
+ghost use Rattle.simd_json_scalars.specs.StringRead.{IsStringAt, IsStringIn};
 
 mod escapes;
 
@@ -37,12 +37,43 @@ pub struct BadEscape {
     pub offset: usize,
 }
 
-/// Reads the string whose opening quote is the first of the unread bytes (RFC 8259, section 7).
+/// A string, decoded in the bytes that it was written in, where it begins after the opening quote.
+#[derive(Clone, Copy, Debug, Drop, PartialEq, Eq)]
+pub struct DecodedString {
+    /// The number of bytes that it was written in, with both quotes.
+    pub len: usize,
+    /// The index after its last byte, as decoded.
+    pub end: usize,
+}
+
+/// Decodes in place the string whose opening quote is the first of the unread bytes (RFC 8259,
+/// section 7).
+///
+/// Returns where the string lies now and how many bytes it was written in, or the first invalid
+/// escape. Requires UTF-8 and a closing quote. A string without an escape stays as it is; after the
+/// first escape its characters are moved down, and nothing is written ahead of what has been read.
+/// The bytes after its closing quote are unchanged; after an error only the length is known.
+///
+/// From `"caf\u00e9", 1` the bytes 1 to 6 are `café`, which was written in 11; in `"\q"` the escape
+/// at offset 1 is invalid.
+#[inline(never)]
+pub fn decode_str(unread: &mut [u8]) -> Result<DecodedString, BadEscape>
+    requires opening { byte_at unread.old 0 ≡ quote }
+    requires closing { closing_quote unread.old 0 < length unread.old }
+    requires utf8 { IsUtf8 unread.old }
+    ensures string { (b : List ℕ) (i : ℕ) → drop i b ≡ unread.old
+        → IsStringIn b i unread.new result }
+    ensures within { IfOk result (λ string. (1 ≤ string.end) × (string.end < string.len)
+        × (string.len ≤ length unread.new)) }
+{
+    decode(unread)
+}
+
+/// Reads the string whose opening quote is the first of the unread bytes, decoded in place as by
+/// [`decode_str`], and splits it off.
 ///
 /// Returns the string, the number of bytes that it was written in, and the bytes after its closing
-/// quote; or the first invalid escape. Requires UTF-8 and a closing quote. A string without an
-/// escape is shared; after the first escape its characters are moved down, and nothing is written
-/// ahead of what has been read.
+/// quote; or the first invalid escape. Requires UTF-8 and a closing quote.
 ///
 /// From `"caf\u00e9", 1` the string is `café`, of 11 bytes, and `, 1` is left; in `"\q"` the escape
 /// at offset 1 is invalid.
@@ -53,15 +84,35 @@ pub fn parse_str<'de>(unread: &'de mut [u8]) -> Result<ParsedString<'de>, BadEsc
     requires utf8 { IsUtf8 unread.old }
     ensures { (b : List ℕ) (i : ℕ) → drop i b ≡ unread.old → IsStringAt b i result }
 {
-    let plain = plain_end(unread, 1);
-    let ends = match unescape(unread, plain) {
-        Ok(ends) => ends,
+    let DecodedString { len, end } = match decode(unread) {
+        Ok(decoded) => decoded,
         Err(bad) => return Err(bad),
     };
-    let len = ends.read + 1;
     let (prefix, rest) = unread.split_at_mut(len);
-    let string = unsafe { str::from_utf8_unchecked(&prefix[1..ends.written]) };
+    let string = unsafe { str::from_utf8_unchecked(&prefix[1..end]) };
     Ok(ParsedString { len, string, rest })
+}
+
+// Inlined, with the loop over escapes: it is part of both calls above, and neither pays for the
+// other.
+#[inline(always)]
+fn decode(unread: &mut [u8]) -> Result<DecodedString, BadEscape>
+    requires opening { byte_at unread.old 0 ≡ quote }
+    requires closing { closing_quote unread.old 0 < length unread.old }
+    requires utf8 { IsUtf8 unread.old }
+    ensures string { (b : List ℕ) (i : ℕ) → drop i b ≡ unread.old
+        → IsStringIn b i unread.new result }
+    ensures within { IfOk result (λ string. (1 ≤ string.end) × (string.end < string.len)
+        × (string.len ≤ length unread.new)) }
+{
+    let plain = plain_end(unread, 1);
+    match unescape(unread, plain) {
+        Ok(ends) => Ok(DecodedString {
+            len: ends.read + 1,
+            end: ends.written,
+        }),
+        Err(bad) => Err(bad),
+    }
 }
 
 // The ends of what is read, and of the string that is written.
@@ -73,6 +124,7 @@ struct Ends {
 
 // Decodes the rest of a string in place, from its first backslash, if it has one, up to its closing
 // quote.
+#[inline(always)]
 fn unescape(unread: &mut [u8], from: usize) -> Result<Ends, BadEscape>
     requires goes_on { IsOpen unread.old from }
     requires stops { is_plain (byte_at unread.old from) ≡ false }

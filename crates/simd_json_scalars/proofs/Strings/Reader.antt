@@ -37,12 +37,13 @@ decoded-slice old new s v d =
 pub decoded-string : (old new : List ℕ) (s v : ℕ) → IsDecoded old 1 1 new s v → IsUtf8 (slice_range new 1 v)
 decoded-string old new s v d = subst IsUtf8 (sym (decoded-slice old new s v d)) d.is_string
 
--- it is the same of the bytes up to the closing quote
-pub slice-front : (bs front : List ℕ) (s v : ℕ) → v ≤ s → front ≡ take (s + 1) bs → take (v - 1) (drop 1 front) ≡ slice_range bs 1 v
-slice-front bs front s v l e =
-    let next : s + 1 ≡ 1 + s = omega arith in
-    ap (λ us. take (v - 1) (drop 1 us)) (e ∙ ap (λ n. take n bs) next) ∙ ap (take (v - 1)) (drop-take 1 s bs)
-    ∙ take-take (v - 1) s (drop 1 bs) (omega arith)
+-- it is the same of the bytes that it was written in
+pub slice-prefix : (bs prefix : List ℕ) (len end : ℕ) → 1 ≤ end → end < len → prefix ≡ take len bs
+    → take (end - 1) (drop 1 prefix) ≡ slice_range bs 1 end
+slice-prefix bs prefix len end some l e =
+    let size : len ≡ 1 + (len - 1) = omega arith in
+    ap (λ us. take (end - 1) (drop 1 us)) (e ∙ ap (λ n. take n bs) size) ∙ ap (take (end - 1)) (drop-take 1 (len - 1) bs)
+    ∙ take-take (end - 1) (len - 1) (drop 1 bs) (omega arith)
 
 -- the bytes from an index on, and those after a quote there
 opening-at : (b old : List ℕ) (i : ℕ) → drop i b ≡ old → byte_at old 0 ≡ quote → byte_at b i ≡ 34
