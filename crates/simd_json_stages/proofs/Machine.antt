@@ -10,3 +10,4 @@ pub mod EscapesPassed
 pub mod InputLaws
 pub mod ScalarPut
 pub mod StringPut
+pub mod TextsInPlace

@@ -2,7 +2,7 @@
 use Rattle.std.specs.Prelude.{◌≡◌, ◌≢◌, ◌≤◌, ◌<◌, ℕ, List, length}
 use Rattle.simd_json_parts.specs.Bytes.{backslash, byte_at}
 use Rattle.simd_json_stages.specs.EscapeBlocks.{backslash_blocks, listed_start}
-use Rattle.simd_json_stages.specs.declared.stage2.input.Escapes.{Escapes}
+use Rattle.simd_json_stages.specs.declared.stage2.escapes.Escapes.{Escapes}
 
 -- no byte from index k up to m is a backslash
 abbrev pub PlainFrom : List ℕ → ℕ → ℕ → Type 0

@@ -3,7 +3,7 @@ use Rattle.std.specs.Prelude.{◌≡◌, ◌≤◌, ◌<◌, ◌+◌, ◌^◌, �
 use Rattle.simd_json_parts.specs.Bytes.{quote, byte_at}
 use Rattle.simd_json_parts.specs.StringAt.{closing_quote}
 use Rattle.simd_json_stages.specs.EscapesAhead.{AreAhead, PlainFrom}
-use Rattle.simd_json_stages.specs.declared.stage2.input.Escapes.{Escapes}
+use Rattle.simd_json_stages.specs.declared.stage2.escapes.Escapes.{Escapes}
 use Rattle.simd_json_stages.specs.declared.stage2.input.Input.{Input}
 
 -- what is lent is the input from an index on, no later than i, with the blocks ahead that hold a backslash

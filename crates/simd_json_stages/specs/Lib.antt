@@ -15,6 +15,7 @@ pub mod Stored
 pub mod Inputs
 pub mod EscapesAhead
 pub mod ReadsLater
+pub mod Placed
 pub mod Continued
 pub mod Building
 pub mod Progresses

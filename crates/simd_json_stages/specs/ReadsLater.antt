@@ -2,7 +2,7 @@
 use Rattle.std.proofs.Common.{◌≤◌, ℕ, List, arith}
 use Rattle.simd_json_stages.specs.EscapesAhead.{AreAhead}
 use Rattle.simd_json_stages.specs.Inputs.{IsLent, Reads}
-use Rattle.simd_json_stages.specs.declared.stage2.input.Escapes.{Escapes}
+use Rattle.simd_json_stages.specs.declared.stage2.escapes.Escapes.{Escapes}
 use Rattle.simd_json_stages.specs.declared.stage2.input.Input.{Input}
 
 pub ahead-later : (b : List ℕ) (e : Escapes) (at : ℕ) → AreAhead b e at → (later : ℕ) → at ≤ later → AreAhead b e later

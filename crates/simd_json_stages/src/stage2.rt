@@ -17,6 +17,8 @@
 //!       └ after_member a comma, or the closing bracket: set_counts in the sink
 //! ```
 //!
+//! `build_spans` does the same for a sink that is told where each text begins (`spans`).
+//!
 //! Beside `machine`, `progress` holds how far it is, `stack` the open containers, `builder` what it
 //! reads and writes: an `input`, and the sink of `nodes`. `scalar` reads the values of one node,
 //! and `fault` is how it rejects a token.
@@ -26,21 +28,25 @@
 //! they have escapes; a string that ends before the next backslash is not read at all, since its
 //! closing quote is the last one before the next structural index; a number with a fraction or an
 //! exponent is kept as its literal.
-ghost use Rattle.std.specs.Prelude.{◌≡◌, ◌≤◌, [], length, min, max, Err, OnOk, IfErr};
+ghost use Rattle.std.specs.Prelude.{◌≡◌, ◌≤◌, [], length, map, min, max, Err, OnOk, IfErr};
+ghost use Rattle.std.specs.List.{All};
 ghost use Rattle.simd_json_parts.specs.Descent.{descent};
 ghost use Rattle.simd_json_stages.specs.Building.{IsWritten};
 ghost use Rattle.simd_json_stages.specs.NodesEnough.{nodes_enough};
+ghost use Rattle.simd_json_stages.specs.Placed.{LiesIn};
 ghost use Rattle.simd_json_stages.specs.Progresses.{IsForCopy};
 ghost use Rattle.simd_json_stages.specs.Rejections.{IsTokenFault};
 ghost use Rattle.simd_json_stages.specs.Scans.{IsScanOf};
 
 mod builder;
+mod escapes;
 mod fault;
 mod input;
 mod machine;
 mod nodes;
 mod progress;
 mod scalar;
+mod spans;
 mod stack;
 
 pub use input::Original;
@@ -48,6 +54,8 @@ use machine::{ANY, CLOSED, PLAIN, build_copy};
 pub use nodes::{ListSink, NodeSink};
 pub use scalar::{is_valid_false_atom, is_valid_null_atom, is_valid_true_atom};
 use simd_json_parts::error::Result;
+pub use spans::SpanSink;
+use spans::build_spans_copy;
 pub use stack::{Container, StackState};
 
 /// Returns how many nodes are enough for a tape of an input with `positions` structural indexes, if
@@ -117,6 +125,52 @@ pub fn build_tape<'de, K: Original, S: NodeSink<'de>>(
         build_copy::<K, S, CLOSED>(input, scanned, stack, sink, max_depth)
     } else {
         build_copy::<K, S, ANY>(input, scanned, stack, sink, max_depth)
+    };
+    match built {
+        Ok(()) => Ok(()),
+        Err(fault) => Err(fault.into_error()),
+    }
+}
+
+/// Writes the nodes of an input to an empty sink that keeps no reference to it, as [`build_tape`]
+/// does: the same nodes, or the same error, over the same lists.
+///
+/// In any case the text of each node that was written lies in the input afterwards, at the byte
+/// index that the sink was given with it. Other bytes of the input are unspecified.
+#[inline(always)]
+pub fn build_spans<K: Original, S: SpanSink>(
+    input: &mut [u8],
+    scanned: Scanned<'_>,
+    stack: &mut [StackState],
+    few: &mut [StackState],
+    sink: &mut S,
+    max_depth: usize,
+) -> Result<()>
+    requires input { input.old ≡ K.bytes }
+    requires scanned { IsScanOf K.bytes scanned }
+    requires room { nodes_enough (length scanned.structural_indexes.now) max_depth
+        ≤ S.node_room sink.old }
+    requires stack { min (length scanned.structural_indexes.now) max_depth
+        ≤ max (length stack.old) (length few.old) }
+    requires empty { S.placed sink.old ≡ [] }
+    ensures room { S.node_room sink.new ≡ S.node_room sink.old }
+    ensures lender { S.lender sink.new ≡ S.lender sink.old }
+    ensures few { OnOk result
+        (length (S.placed sink.new) ≤ length scanned.entry.structural_indexes.now) }
+    ensures built { OnOk result
+        (IsWritten K.bytes max_depth (map (λ p. p.item) (S.placed sink.new))) }
+    ensures rejected { IfErr result (λ e. IsTokenFault e × (descent K.bytes max_depth ≡ Err e)) }
+    ensures texts { All (LiesIn input.new) (S.placed sink.new) }
+{
+    let depth = scanned.structural_indexes.len().min(max_depth);
+    let stack = stack_for(stack, few, depth);
+    let copy = copy_for(input, scanned);
+    let built = if copy == PLAIN {
+        build_spans_copy::<K, S, PLAIN>(input, scanned, stack, sink, max_depth)
+    } else if copy == CLOSED {
+        build_spans_copy::<K, S, CLOSED>(input, scanned, stack, sink, max_depth)
+    } else {
+        build_spans_copy::<K, S, ANY>(input, scanned, stack, sink, max_depth)
     };
     match built {
         Ok(()) => Ok(()),

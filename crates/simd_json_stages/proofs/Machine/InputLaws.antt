@@ -10,7 +10,7 @@ use Rattle.simd_json_scalars.proofs.Strings.Standalone.{closing_quote-further}
 use Rattle.simd_json_stages.specs.EscapeBlocks.{blocks_in, backslash_blocks}
 use Rattle.simd_json_stages.specs.EscapesAhead.{AreAhead, PlainFrom}
 use Rattle.simd_json_stages.specs.Inputs.{IsLent, IsStringBefore, Reads}
-use Rattle.simd_json_stages.specs.declared.stage2.input.Escapes.{Escapes}
+use Rattle.simd_json_stages.specs.declared.stage2.escapes.Escapes.{Escapes}
 use Rattle.simd_json_stages.specs.declared.stage2.input.Input.{Input}
 use Rattle.simd_json_stages.proofs.Machine.BetweenBlocks.{plain-to_first}
 use Rattle.simd_json_stages.specs.ReadsLater.{ahead-later}

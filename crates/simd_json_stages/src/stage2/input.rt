@@ -6,9 +6,8 @@
 //! that was decoded is never read again. simdjson copies each string to a buffer instead (section
 //! 3.2 of the paper that `stage2` names).
 //!
-//! A string has no escape if it ends before the next backslash, which a walk along the blocks of
-//! the first stage finds. It is shared without a look at its bytes: its closing quote is the last
-//! quote before the next structural index, since only whitespace lies between.
+//! A string that ends before the next backslash (see `escapes`) is shared without a look at its
+//! bytes.
 ghost use Rattle.std.specs.Prelude.{◌≡◌, ◌≤◌, ◌<◌, ◌+◌, ◌-◌, ◌*◌, ◌^◌};
 ghost use Rattle.std.specs.Prelude.{ℕ, List, [], suc, length, slice_index, take, drop};
 ghost use Rattle.std.specs.Prelude.{MatchResult, Ok, Err, IsTrue, IsFalse, true, false};
@@ -20,11 +19,9 @@ ghost use Rattle.simd_json_stages.specs.EscapesAhead.{AreAhead, ArePassed, Plain
 ghost use Rattle.simd_json_stages.specs.Inputs.{HasBytes, HasPlain, HasQuoted, HasQuotedSomewhere};
 ghost use Rattle.simd_json_stages.specs.Inputs.{HasString, IsStringBefore, Reads};
 
-use crate::stage1::BLOCK_LEN;
-use memchr::memchr;
+use super::escapes::{Escapes, last_quote};
 use simd_json_scalars::stringparse::{BadEscape, parse_str};
 use std::marker::Brand;
-use std::simd::prelude::*;
 
 /// The bytes of an input as they were given, before strings are decoded in place: a type that names
 /// them in contracts. It has no values, and at run time it is nothing.
@@ -68,11 +65,7 @@ impl<'m, 'de> Input<'m, 'de> {
             shared: input,
             rest: &mut [],
             at: 0,
-            escapes: Escapes {
-                blocks: &[],
-                next: 0,
-                mark: 0,
-            },
+            escapes: Escapes::new(&[]),
             end: input.len(),
         }
     }
@@ -89,11 +82,7 @@ impl<'m, 'de> Input<'m, 'de> {
             shared: &[],
             rest: input,
             at: 0,
-            escapes: Escapes {
-                blocks: escape_blocks,
-                next: 0,
-                mark: 0,
-            },
+            escapes: Escapes::new(escape_blocks),
             end,
         }
     }
@@ -157,10 +146,7 @@ impl<'m, 'de> Input<'m, 'de> {
         prefix
     }
 
-    // Whether the string from index `at` may have an escape before index `end`. Past the mark this
-    // is true without a search if fewer than 32 bytes are left, so the last strings may be decoded
-    // although they have none. It is also true if one of the next 32 bytes is a backslash: if
-    // escapes are dense, this finds the next one at less cost than the walk.
+    // Whether the string from index `at` may have an escape before index `end`.
     #[inline(always)]
     pub(crate) fn may_have_escape(&mut self, at: usize, end: usize) -> bool
         requires { HasBytes (λ b. Reads b self.old) at 0 }
@@ -168,57 +154,16 @@ impl<'m, 'de> Input<'m, 'de> {
         ensures plain { IsFalse result → (b : List ℕ) → Reads b self.old at → PlainFrom b at end }
         ensures lent { IsTrue result → IsFalse self.new.is_plain }
     {
-        if self.is_plain || end <= self.escapes.mark {
+        if self.is_plain {
             return false;
         }
-        if self.escapes.mark < at {
-            let rest = self.from(at);
-            if rest.len() < 32 {
-                return true;
-            }
-            let backslashes = u8x32::from_slice(rest).simd_eq(u8x32::splat(b'\\'));
-            if backslashes.to_bitmask() != 0 {
-                return true;
-            }
-            self.escapes = self.escapes_from(at);
-        }
-        self.escapes.mark < end
+        let (escapes, may_have_escape) = self.escapes.ahead(self.from(at), at, end);
+        self.escapes = escapes;
+        may_have_escape
     }
 
-    // The walk along the backslashes, with its mark at the first one from index `at` on.
-    #[inline(always)]
-    fn escapes_from(&self, at: usize) -> Escapes<'m>
-        requires lent { IsFalse self.now.is_plain }
-        requires bytes { HasBytes (λ b. Reads b self.now) at 0 }
-        ensures { (b : List ℕ) → Reads b self.now at → AreAhead b result at }
-    {
-        let Escapes { blocks, next, .. } = self.escapes;
-        let rest = &self.rest[..self.end - self.at];
-        let (next, mark) = next_backslash(blocks, next, at, rest, self.at);
-        Escapes { blocks, next, mark }
-    }
-
-    // The index of the last quote before index `end`, which closes the string whose opening quote
-    // has index `at`. Usually it is right before `end`. That is tested before the loop, which is
-    // slower.
-    #[inline(always)]
-    fn last_quote(&self, at: usize, end: usize) -> usize
-        requires { HasQuoted (λ b. Reads b self.now) at end }
-        ensures { (b : List ℕ) → Reads b self.now at → IsStringBefore b at end
-            → result ≡ closing_quote b at }
-    {
-        let mut last = end - 1;
-        if self.byte(last) == b'"' {
-            return last;
-        }
-        'back: while self.byte(last) != b'"' {
-            last -= 1;
-        }
-        last
-    }
-
-    // Shares the string whose opening quote has index `at`, and which has no escape. The last quote
-    // before index `end` closes it, so its bytes are not read.
+    // Shares the string whose opening quote has index `at`, and which has no escape. It is closed
+    // before index `end`.
     #[inline(always)]
     pub(crate) fn share_string(&mut self, at: usize, end: usize) -> &'de str
         requires { HasPlain (λ b. Reads b self.old) at end }
@@ -226,7 +171,7 @@ impl<'m, 'de> Input<'m, 'de> {
             → (string_at b at ≡ Ok (result.now, suc (closing_quote b at)))
             × Reads b self.new (suc (closing_quote b at)) }
     {
-        let closing = self.last_quote(at, end);
+        let closing = last_quote(self.from(at), at, end);
         self.share(at + 1, closing - (at + 1))
     }
 
@@ -249,65 +194,5 @@ impl<'m, 'de> Input<'m, 'de> {
         self.at = at + string.len;
         self.rest = string.rest;
         Ok(string.string)
-    }
-}
-
-// A walk along the backslashes, beside the walk through the input.
-#[derive(Clone, Copy, Drop)]
-pub(crate) struct Escapes<'a> {
-    // the numbers of the blocks of 64 bytes that hold a backslash, ascending
-    pub(crate) blocks: &'a [u32],
-    // the place in `blocks` of the first one that was not passed
-    pub(crate) next: usize,
-    // an index: from where the walk is up to it there is no backslash
-    pub(crate) mark: usize,
-}
-
-// The place in `blocks` of the first one, from `next` on, that does not lie before index `at`, and
-// the index of the first backslash from `at` on, or the greatest number if none is left. `rest` is
-// the input from index `base` on. Not inlined. It takes slices and numbers, not the `Input`: what
-// is passed by reference to such a call is kept in memory.
-#[inline(never)]
-fn next_backslash(
-    blocks: &[u32],
-    next: usize,
-    at: usize,
-    rest: &[u8],
-    base: usize,
-) -> (usize, usize)
-    requires ahead { base ≤ at }
-    requires within { at ≤ base + length rest.now }
-    requires fits { base + length rest.now < 2 ^ 64 }
-    ensures { (b : List ℕ) → drop base b ≡ rest.now → ArePassed b blocks.now next at
-        → ArePassed b blocks.now result.0 at × PlainFrom b at result.1 }
-{
-    let next = passed(blocks, next, at);
-    let from = start(blocks, next).max(at).min(base + rest.len());
-    match memchr(b'\\', &rest[from - base..]) {
-        Some(plain) => (next, from + plain),
-        None => (next, usize::MAX),
-    }
-}
-
-// The place in `blocks` of the first one, from `next` on, that does not lie before index `at`.
-fn passed(blocks: &[u32], next: usize, at: usize) -> usize
-    ensures { (b : List ℕ) → ArePassed b blocks.now next at → ArePassed b blocks.now result at }
-{
-    let mut next = next;
-    while next < blocks.len() && blocks[next] as usize * BLOCK_LEN + BLOCK_LEN <= at {
-        next += 1;
-    }
-    next
-}
-
-// The index at which the block at place `next` of the list begins, or the greatest number if the
-// list has no such place.
-#[inline(always)]
-fn start(blocks: &[u32], next: usize) -> usize
-    ensures { next < length blocks.now → result ≡ 64 * slice_index blocks.now next }
-{
-    match blocks.get(next) {
-        Some(block) => *block as usize * BLOCK_LEN,
-        None => usize::MAX,
     }
 }

@@ -350,7 +350,7 @@ pub(super) fn build_copy<'de, K: Original, S: NodeSink<'de>, const COPY: usize>(
 
 // Appends the nodes of all tokens, from the root's first token on.
 #[inline(always)]
-fn build<K: Original, B: Builder, const COPY: usize>(
+pub(super) fn build<K: Original, B: Builder, const COPY: usize>(
     builder: &mut B,
     route: Route,
     stack: &mut [StackState],

@@ -1,5 +1,6 @@
-use Rattle.std.proofs.Common.{ap, length, arith}
+use Rattle.std.proofs.Common.{ap, length, subst, sym, arith}
 use Rattle.simd_json_stages.proofs.Machine.BetweenBlocks.{plain-to_first}
+use Rattle.simd_json_stages.specs.EscapesAhead.{AreAhead}
 use Rattle.simd_json_stages.proofs.stage2.input.Input.with_escapes.Goals as goal
 
 pub returns : goal.returns
@@ -10,9 +11,9 @@ returns c b is blocks = record {
   part = λ _. record {
     rest = is;
     before = omega arith;
-    ahead = record {
+    ahead = subst (λ e. AreAhead b e 0) (sym c.new.ensures) (record {
       passed = record { blocks = blocks; within = omega arith; plain = plain-to_first b };
       plain = λ j f t. omega (arith, f, t);
-    };
+    });
   };
 }

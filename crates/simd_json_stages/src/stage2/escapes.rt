@@ -1,0 +1,127 @@
+//! The backslashes of an input, by a walk along the blocks that hold one, beside the walk through
+//! its tokens.
+//!
+//! A string has no escape if it ends before the next backslash. It is not read at all: its closing
+//! quote is the last quote before the next structural index, since only whitespace lies between.
+ghost use Rattle.std.specs.Prelude.{◌≡◌, ◌≤◌, ◌<◌, ◌+◌, ◌*◌, ◌^◌};
+ghost use Rattle.std.specs.Prelude.{ℕ, List, length, slice_index, drop, IsFalse};
+ghost use Rattle.simd_json_parts.specs.StringAt.{closing_quote};
+ghost use Rattle.simd_json_stages.specs.EscapesAhead.{AreAhead, ArePassed, PlainFrom};
+ghost use Rattle.simd_json_stages.specs.Inputs.{HasQuoted, IsStringBefore};
+
+use crate::stage1::BLOCK_LEN;
+use memchr::memchr;
+use std::simd::prelude::*;
+
+// A walk along the backslashes, beside the walk through the input.
+#[derive(Clone, Copy, Drop)]
+pub(crate) struct Escapes<'a> {
+    // the numbers of the blocks of 64 bytes that hold a backslash, ascending
+    pub(crate) blocks: &'a [u32],
+    // the place in `blocks` of the first one that was not passed
+    pub(crate) next: usize,
+    // an index: from where the walk is up to it there is no backslash
+    pub(crate) mark: usize,
+}
+
+impl<'a> Escapes<'a> {
+    // The walk before its first step. `blocks` are the numbers of the blocks with a backslash.
+    #[inline(always)]
+    pub(super) fn new(blocks: &'a [u32]) -> Escapes<'a>
+        ensures { result ≡ record { blocks = blocks.entry; next = 0; mark = 0 } }
+    {
+        Escapes {
+            blocks,
+            next: 0,
+            mark: 0,
+        }
+    }
+
+    // The walk, come to index `at`, and whether the string from there on may have an escape before
+    // index `end`. `rest` is the input from index `at` on. Past the mark this is true without a
+    // search if fewer than 32 bytes are left, so the last strings may be decoded although they have
+    // none. It is also true if one of the next 32 bytes is a backslash: if escapes are dense, this
+    // finds the next one at less cost than the walk.
+    #[inline(always)]
+    pub(super) fn ahead(self, rest: &[u8], at: usize, end: usize) -> (Escapes<'a>, bool)
+        requires { at + length rest.now < 2 ^ 64 }
+        ensures ahead { (b : List ℕ) → drop at b ≡ rest.now → AreAhead b self.entry at
+            → AreAhead b result.0 at }
+        ensures plain { IsFalse result.1 → (b : List ℕ) → drop at b ≡ rest.now
+            → AreAhead b self.entry at → PlainFrom b at end }
+    {
+        if end <= self.mark {
+            return (self, false);
+        }
+        if at <= self.mark || rest.len() < 32 {
+            return (self, true);
+        }
+        let backslashes = u8x32::from_slice(rest).simd_eq(u8x32::splat(b'\\'));
+        if backslashes.to_bitmask() != 0 {
+            return (self, true);
+        }
+        let (next, mark) = next_backslash(self.blocks, self.next, at, rest);
+        let blocks = self.blocks;
+        (Escapes { blocks, next, mark }, mark < end)
+    }
+}
+
+// The place in `blocks` of the first one, from `next` on, that does not lie before index `at`, and
+// the index of the first backslash from `at` on, or the greatest number if none is left. `rest` is
+// the input from index `at` on. Not inlined. It takes slices and numbers, not the `Escapes`: what
+// is passed by reference to such a call is kept in memory.
+#[inline(never)]
+fn next_backslash(blocks: &[u32], next: usize, at: usize, rest: &[u8]) -> (usize, usize)
+    requires { at + length rest.now < 2 ^ 64 }
+    ensures { (b : List ℕ) → drop at b ≡ rest.now → ArePassed b blocks.now next at
+        → ArePassed b blocks.now result.0 at × PlainFrom b at result.1 }
+{
+    let next = passed(blocks, next, at);
+    let from = start(blocks, next).max(at).min(at + rest.len());
+    match memchr(b'\\', &rest[from - at..]) {
+        Some(plain) => (next, from + plain),
+        None => (next, usize::MAX),
+    }
+}
+
+// The place in `blocks` of the first one, from `next` on, that does not lie before index `at`.
+fn passed(blocks: &[u32], next: usize, at: usize) -> usize
+    ensures { (b : List ℕ) → ArePassed b blocks.now next at → ArePassed b blocks.now result at }
+{
+    let mut next = next;
+    while next < blocks.len() && blocks[next] as usize * BLOCK_LEN + BLOCK_LEN <= at {
+        next += 1;
+    }
+    next
+}
+
+// The index at which the block at place `next` of the list begins, or the greatest number if the
+// list has no such place.
+#[inline(always)]
+fn start(blocks: &[u32], next: usize) -> usize
+    ensures { next < length blocks.now → result ≡ 64 * slice_index blocks.now next }
+{
+    match blocks.get(next) {
+        Some(block) => *block as usize * BLOCK_LEN,
+        None => usize::MAX,
+    }
+}
+
+// The index of the last quote before index `end`, which closes the string whose opening quote has
+// index `at`. Usually it is right before `end`. That is tested before the loop, which is slower.
+// `rest` is the input from index `at` on.
+#[inline(always)]
+pub(super) fn last_quote(rest: &[u8], at: usize, end: usize) -> usize
+    requires { HasQuoted (λ b i. drop i b ≡ rest.now) at end }
+    ensures { (b : List ℕ) → drop at b ≡ rest.now → IsStringBefore b at end
+        → result ≡ closing_quote b at }
+{
+    let mut last = end - 1;
+    if rest[last - at] == b'"' {
+        return last;
+    }
+    'back: while rest[last - at] != b'"' {
+        last -= 1;
+    }
+    last
+}
