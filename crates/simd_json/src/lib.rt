@@ -34,6 +34,7 @@
 //! | learn whether an input is a document, without a tape | [`check`] |
 //! | exclude `OutOfMemory` for inputs up to a size | [`reserve`], before the parses |
 //! | make nodes of your own, without a tape | [`fill_sink`] with a [`NodeSink`] |
+//! | the same with texts that stay in the input | [`fill_spans`] with a [`SpanSink`] |
 //! | look at values | [`Value`](tape::Value), [`Array`](tape::Array), [`Object`](tape::Object) |
 //! | visit all values | [`Value::descendants`](tape::Value::descendants) |
 //! | follow a JSON Pointer (RFC 6901) | [`Value::pointer`](tape::Value::pointer), [`Pointer`] |
@@ -77,6 +78,7 @@ mod deserializer;
 pub mod laws;
 mod parse;
 mod sink;
+mod spans;
 pub mod value;
 
 pub use buffers::Buffers;
@@ -88,8 +90,9 @@ pub use simd_json_check::{DEFAULT_MAX_DEPTH, Location, Reason, locate};
 pub use simd_json_parts::error::{Error, ErrorType, Result};
 pub use simd_json_parts::node::{Node, StaticNode, TryTypeError, ValueType};
 pub use simd_json_print::document::{append_quoted, write_quoted};
-pub use simd_json_stages::stage2::{Container, ListSink, NodeSink, Original};
+pub use simd_json_stages::stage2::{Container, ListSink, NodeSink, Original, SpanSink};
 pub use sink::fill_sink;
+pub use spans::fill_spans;
 pub use value::pointer::{Pointer, PointerError, PointerExpected};
 pub use value::tape;
 pub use value::tape::Tape;

@@ -19,6 +19,7 @@ mod printing;
 mod reading;
 mod reuse;
 mod shapes;
+mod spans;
 mod values;
 mod views;
 

@@ -3,7 +3,7 @@ use Rattle.std.proofs.Common.{◌≡◌, sym, ◌∙◌, ap, subst, refl, ℕ, �
 use Rattle.std.proofs.lemmas.Grind.{common_steps}
 use Rattle.std.specs.Prelude.{IsFalse, IsUtf8, slice_set}
 use Rattle.std.proofs.lemmas.List.{drop-drop, drop-take, take-take, get_or-drop, length-drop, length-take-le}
-use Rattle.std.proofs.lemmas.List.Elements.{All-nil, All-push, All-set, All-weaker}
+use Rattle.std.proofs.lemmas.List.Elements.{All-push, All-set, All-weaker}
 use Rattle.std.proofs.lemmas.Str.{IsUtf8-nil, is_utf8-from_IsUtf8, IsUtf8-from_is_utf8}
 use Rattle.std.specs.List.{All}
 use borrow.Rule.Slice.PartMut.{put_mid}
@@ -51,9 +51,6 @@ pub drop-part : (at k : ℕ) (xs ys : List ℕ) → at ≤ length xs → k ≡ l
 drop-part at k xs ys fits size long = grind (arith, common_steps)
 
 -- ---- texts that lie in the bytes
-
-pub nothing-laid : (bytes : List ℕ) (ps : List Placed) → ps ≡ [] → AreLaid bytes 0 ps
-nothing-laid bytes ps none = record { within = omega arith; each = subst (All (LiesBefore bytes 0)) (sym none) (All-nil (LiesBefore bytes 0)) }
 
 -- before a later index they lie too
 pub laid-later : {bytes : List ℕ} {end later : ℕ} {ps : List Placed} → AreLaid bytes end ps → end ≤ later → later ≤ length bytes

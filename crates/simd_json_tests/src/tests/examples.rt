@@ -1,6 +1,7 @@
 // The examples of the README, of the entry points and of the views, as they stand there.
+use crate::tests::spans::empty_list;
 use crate::tests::tape_of;
-use simd_json::{Container, ListSink, NodeSink};
+use simd_json::{Buffers, Container, ListSink, NodeSink, SpanSink, fill_spans};
 
 mod first_call {
     use simd_json::{Result, to_tape};
@@ -85,7 +86,7 @@ mod entry_points {
 }
 
 mod sinks {
-    use simd_json::{Container, NodeSink, StaticNode};
+    use simd_json::{Container, NodeSink, SpanSink, StaticNode};
 
     // Counts strings and keys, and hands all nodes on.
     #[derive(Drop)]
@@ -110,6 +111,52 @@ mod sinks {
 
         fn push_decimal(&mut self, literal: &'de str) {
             self.nodes.push_decimal(literal);
+        }
+
+        fn push_static(&mut self, value: StaticNode) {
+            self.nodes.push_static(value);
+        }
+
+        fn push_header(&mut self, container: Container) {
+            self.nodes.push_header(container);
+        }
+
+        fn set_counts(&mut self, header: usize, container: Container, len: usize, count: usize) {
+            self.nodes.set_counts(header, container, len, count);
+        }
+
+        fn len(&self) -> usize {
+            self.nodes.len()
+        }
+    }
+
+    // Keeps the place of the longest string, and hands all nodes on.
+    #[derive(Drop)]
+    pub(super) struct LongestString<S> {
+        pub(super) at: usize,
+        pub(super) len: usize,
+        pub(super) nodes: S,
+    }
+
+    impl<S: SpanSink> SpanSink for LongestString<S> {
+        ghost placed = { λ s. S.placed s.nodes };
+
+        ghost node_room = { λ s. S.node_room s.nodes };
+
+        ghost Lender = { S.Lender };
+
+        ghost lender = { λ s. S.lender s.nodes };
+
+        fn push_string(&mut self, at: usize, string: &str) {
+            if string.len() > self.len {
+                self.at = at;
+                self.len = string.len();
+            }
+            self.nodes.push_string(at, string);
+        }
+
+        fn push_decimal(&mut self, at: usize, literal: &str) {
+            self.nodes.push_decimal(at, literal);
         }
 
         fn push_static(&mut self, value: StaticNode) {
@@ -196,4 +243,21 @@ fn a_sink_counts_strings(rt: HostRuntime) {
     counter.set_counts(0, Container::Object, 1, 2);
     assert_eq!(rt; counter.strings, 2);
     assert_eq!(rt; counter.len(), 3);
+}
+
+#[test]
+fn a_sink_keeps_the_place_of_a_string(rt: HostRuntime) {
+    let mut input = *b"[\"a\",\"b\\u0063d\",\"e\"]";
+    let mut buffers = Buffers::empty(rt.alloc(), 1);
+    let mut longest = sinks::LongestString {
+        at: 0,
+        len: 0,
+        nodes: empty_list(&rt),
+    };
+    assert_eq!(rt; fill_spans(&mut input, &mut buffers, &mut longest), Ok(()));
+    assert_eq!(rt;
+        &input[longest.at..longest.at.saturating_add(longest.len)],
+        b"bcd".as_slice()
+    );
+    assert_eq!(rt; longest.nodes.len(), 4);
 }
