@@ -109,18 +109,19 @@ fn start(blocks: &[u32], next: usize) -> usize
 
 // The index of the last quote before index `end`, which closes the string whose opening quote has
 // index `at`. Usually it is right before `end`. That is tested before the loop, which is slower.
-// `rest` is the input from index `at` on.
+// `rest` is the input from index `base` on: with one from `at` on, each number costs four
+// instructions more.
 #[inline(always)]
-pub(super) fn last_quote(rest: &[u8], at: usize, end: usize) -> usize
-    requires { HasQuoted (λ b i. drop i b ≡ rest.now) at end }
-    ensures { (b : List ℕ) → drop at b ≡ rest.now → IsStringBefore b at end
+pub(super) fn last_quote(rest: &[u8], base: usize, at: usize, end: usize) -> usize
+    requires { HasQuoted (λ b i. (drop base b ≡ rest.now) × (base ≤ i)) at end }
+    ensures { (b : List ℕ) → drop base b ≡ rest.now → IsStringBefore b at end
         → result ≡ closing_quote b at }
 {
     let mut last = end - 1;
-    if rest[last - at] == b'"' {
+    if rest[last - base] == b'"' {
         return last;
     }
-    'back: while rest[last - at] != b'"' {
+    'back: while rest[last - base] != b'"' {
         last -= 1;
     }
     last

@@ -171,8 +171,21 @@ impl<'m, 'de> Input<'m, 'de> {
             → (string_at b at ≡ Ok (result.now, suc (closing_quote b at)))
             × Reads b self.new (suc (closing_quote b at)) }
     {
-        let closing = last_quote(self.from(at), at, end);
+        let closing = self.closing(at, end);
         self.share(at + 1, closing - (at + 1))
+    }
+
+    // The index of the closing quote of the string from index `at`, which is closed before `end`.
+    #[inline(always)]
+    fn closing(&self, at: usize, end: usize) -> usize
+        requires { HasQuoted (λ b. Reads b self.now) at end }
+        ensures { (b : List ℕ) → Reads b self.now at → IsStringBefore b at end
+            → result ≡ closing_quote b at }
+    {
+        if self.is_plain {
+            return last_quote(self.shared, 0, at, end);
+        }
+        last_quote(self.rest, self.at, at, end)
     }
 
     // Decodes in place the string whose opening quote has index `at`. Returns it, or its first

@@ -223,7 +223,7 @@ impl<'n, 'm, 'b, S: SpanSink> InPlace<'n, 'm, 'b, S> {
         ensures { (b : List ℕ) → drop at b ≡ drop at self.now.bytes.now → IsStringBefore b at end
             → result ≡ closing_quote b at }
     {
-        last_quote(&self.bytes[at..], at, end)
+        last_quote(&self.bytes[at..], at, at, end)
     }
 }
 
@@ -241,10 +241,8 @@ fn hand_string<S: SpanSink>(nodes: &mut S, bytes: &mut [u8], at: usize, len: usi
       item = string_item (take len (drop at bytes.old));
     } ∷ [] }
 {
-    nodes.push_string(
-        at,
-        unsafe { str::from_utf8_unchecked(&bytes[at..at + len]) },
-    );
+    let string = unsafe { str::from_utf8_unchecked(&bytes[at..at + len]) };
+    nodes.push_string(at, string);
 }
 
 // The same as a decimal.
@@ -260,10 +258,8 @@ fn hand_decimal<S: SpanSink>(nodes: &mut S, bytes: &mut [u8], at: usize, len: us
       item = decimal_item (take len (drop at bytes.old));
     } ∷ [] }
 {
-    nodes.push_decimal(
-        at,
-        unsafe { str::from_utf8_unchecked(&bytes[at..at + len]) },
-    );
+    let literal = unsafe { str::from_utf8_unchecked(&bytes[at..at + len]) };
+    nodes.push_decimal(at, literal);
 }
 
 // Decodes in place the string whose opening quote has index `at`, and appends it. Returns the index

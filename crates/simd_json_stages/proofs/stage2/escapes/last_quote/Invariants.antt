@@ -7,7 +7,7 @@ use Rattle.simd_json_stages.proofs.stage2.escapes.last_quote.Given as goal
 abbrev pub invariant-back : goal.invariant-back
 invariant-back l = record {
   below : l.last < l.end;
-  upto : (b : List ℕ) → drop l.at b ≡ l.rest → IsStringBefore b l.at l.end → closing_quote b l.at ≤ l.last;
+  upto : (b : List ℕ) → drop l.base b ≡ l.rest → IsStringBefore b l.at l.end → closing_quote b l.at ≤ l.last;
 }
 
 abbrev pub decreases-back : goal.decreases-back

@@ -7,7 +7,7 @@ use Rattle.simd_json_stages.proofs.stage2.input.Input.share_string.Goals as goal
 pub share-requires : goal.share-requires
 share-requires c =
     let q = c.requires.quoted in
-    let closing = c.last_quote-closing.ensures q.b (sym (c.from.ensures q.b q.reads)) q.string in
+    let closing = c.closing-closing.ensures q.b q.reads q.string in
     record {
       bytes = record {
         b = q.b;
@@ -20,7 +20,7 @@ share-requires c =
 
 pub returns : goal.returns
 returns c b reads string plain =
-    let closing = c.last_quote-closing.ensures b (sym (c.from.ensures b reads)) string in
+    let closing = c.closing-closing.ensures b reads string in
     let kept = reads-kept b c.args.self.now c.args.at (c.args.at + 1) reads (omega arith) in (
       plain-string b c.args.at c.args.end string plain _ (c.share.ensures.string b kept
           ∙ shared-slice b b c.args.at c.args.end _ string refl closing),
