@@ -6,15 +6,15 @@ use Rattle.std.specs.Prelude.{not, ◌&&◌, flat_map, is_some, map}
 use Rattle.std.specs.List.{list_all}
 use Rattle.std.proofs.lemmas.List.{map-append}
 use Rattle.std.proofs.lemmas.List.Folds.{list_all-append}
-use Rattle.simd_json_parts.specs.Document.{Document, array, object}
+use Rattle.simd_json_parts.specs.Document.{Document, null, boolean, integer, decimal, string, array, object}
 use Rattle.simd_json_parts.specs.Limits.{depth}
 use Rattle.simd_json.specs.Beneath.{children}
 use Rattle.simd_json_path.specs.Paths.{followed, selected, selected_by, selected_by_all}
 use Rattle.simd_json_path.specs.Room.{are_children, entered, frames_for, is_container, selected_in, selected_within}
 use Rattle.simd_json_path.specs.declared.path.Path.{Path}
-use Rattle.simd_json_path.specs.declared.path.Segment.{Segment}
-use Rattle.simd_json_path.specs.declared.path.Selector.{Selector}
-use Rattle.simd_json_path.specs.declared.path.Selector.TheVariants as selector
+use Rattle.simd_json_query.specs.declared.query.Segment.{Segment}
+use Rattle.simd_json_query.specs.declared.query.Selector.{Selector}
+use Rattle.simd_json_query.specs.declared.query.Selector.TheVariants as selector
 use Rattle.simd_json_path.proofs.Heights.{height, height-followed, height-selected_by_all, height-entered}
 use Rattle.simd_json_path.proofs.Segments.{from_node, from_node-step, nodes-each, flat_map-same}
 

@@ -3,11 +3,11 @@ use Rattle.std.specs.Prelude.{List, [], ◌∷◌, Bool, not, ◌&&◌, ◌||◌
 use Rattle.simd_json_parts.specs.Document.{Document}
 use Rattle.simd_json_parts.specs.Views.{get}
 use Rattle.simd_json_path.specs.Places.{at_index}
-use Rattle.simd_json_path.specs.declared.filter.SingularQuery.{SingularQuery}
-use Rattle.simd_json_path.specs.declared.filter.SingularQuery.TheVariants as query
-use Rattle.simd_json_path.specs.declared.filter.Step.{Step}
-use Rattle.simd_json_path.specs.declared.filter.Step.TheVariants as step
-use Rattle.simd_json_path.specs.declared.filter.Test.{Test, Exists, Not', And', Or'}
+use Rattle.simd_json_query.specs.declared.filter.SingularQuery.{SingularQuery}
+use Rattle.simd_json_query.specs.declared.filter.SingularQuery.TheVariants as query
+use Rattle.simd_json_query.specs.declared.filter.Step.{Step}
+use Rattle.simd_json_query.specs.declared.filter.Step.TheVariants as step
+use Rattle.simd_json_query.specs.declared.filter.Test.{Test, Exists, Not', And', Or'}
 
 -- ---- queries that select at most one node (section 2.3.5.1)
 

@@ -5,37 +5,7 @@ ghost use Rattle.simd_json_path.specs.Filters.{at_step, at_steps, holds, selecte
 
 use crate::children::at_index;
 use simd_json::tape::Value;
-
-/// A step from a node to one of its children: a segment of one name or one index.
-#[derive(Clone, Copy, Debug)]
-pub enum Step<'path> {
-    /// To the value of the member with a name; of equal names the first.
-    Name(&'path str),
-    /// To the element at an index; below zero it counts from the end.
-    Index(i64),
-}
-
-/// A query that selects at most one node (section 2.3.5.1).
-#[derive(Clone, Copy, Debug)]
-pub enum SingularQuery<'path> {
-    /// From the node that is tested: `@`.
-    Relative(&'path [Step<'path>]),
-    /// From the value that the whole query is applied to: `$`.
-    Absolute(&'path [Step<'path>]),
-}
-
-/// A test of a node: a logical expression (section 2.3.5.1).
-#[derive(Clone, Copy)]
-pub enum Test<'path> {
-    /// The query selects a node, whatever its value.
-    Exists(SingularQuery<'path>),
-    /// The test fails.
-    Not(&'path Test<'path>),
-    /// Both pass.
-    And(&'path Test<'path>, &'path Test<'path>),
-    /// One of them passes, or both.
-    Or(&'path Test<'path>, &'path Test<'path>),
-}
+use simd_json_query::{SingularQuery, Step, Test};
 
 // Whether a node passes a test, in a query that is applied to `root`. It recurses over the test.
 pub(crate) fn holds(test: &Test<'_>, root: Value<'_, '_>, node: Value<'_, '_>) -> bool
@@ -43,6 +13,7 @@ pub(crate) fn holds(test: &Test<'_>, root: Value<'_, '_>, node: Value<'_, '_>) -
 {
     match test {
         Test::Exists(query) => selected_node(query, root, node).is_some(),
+        Test::Compare(_, _, _) => false,
         Test::Not(inner) => !holds(inner, root, node),
         Test::And(left, right) => holds(left, root, node) && holds(right, root, node),
         Test::Or(left, right) => holds(left, root, node) || holds(right, root, node),

@@ -73,7 +73,10 @@ mod picked;
 mod selected;
 mod slice;
 
-pub use filter::{SingularQuery, Step, Test};
 pub use frame::Frame;
-pub use path::{Path, Segment, Selector, Slice};
+pub use path::Path;
 pub use selected::{Selected, TooFewFrames};
+pub use simd_json_query::{
+    Comparable, Comparison, Literal, PathError, PathExpected, Segment, Selector, SingularQuery, Slice,
+    Step, Test,
+};

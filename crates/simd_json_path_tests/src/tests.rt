@@ -8,6 +8,7 @@ mod filters;
 mod frames;
 mod segments;
 mod selectors;
+mod texts;
 
 type Tested = std::result::Result<(), Fail>;
 

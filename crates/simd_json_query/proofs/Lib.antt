@@ -1,0 +1,3 @@
+pub mod Runs
+pub mod Numbers
+pub mod Characters
