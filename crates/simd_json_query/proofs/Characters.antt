@@ -1,11 +1,11 @@
 -- Characters of names that are read one after the other.
-use Rattle.std.proofs.Common.{◌≡◌, ◌∙◌, ap, sym, refl, subst, ℕ, List, [], ◌∷◌, ◌++◌, Bool, true, append_assoc}
+use Rattle.std.proofs.Common.{◌≡◌, ◌∙◌, ap, sym, refl, ℕ, List, [], ◌∷◌, ◌++◌, Bool, true, append_assoc}
 use Rattle.std.specs.Prelude.{◌&&◌, encode_utf8, encode_utf8_all}
 use Rattle.std.specs.List.{list_all}
 use Rattle.std.proofs.lemmas.List.{append-nil}
-use Rattle.simd_json_query.specs.Queries.{Name, Piece, Pieces, Quoted, begins_name, is_in_name}
-use Rattle.simd_json_query.specs.Spans.{Mark, Run}
-use Rattle.simd_json_query.proofs.Runs.{encodes-more, run-none, run-more}
+use Rattle.simd_json_query.specs.Steps.{Name, Piece, Quoted, begins_name, is_in_name}
+use Rattle.simd_json_query.specs.Spans.{Many, Mark, Run}
+use Rattle.simd_json_query.proofs.Runs.{encodes-more, many-more, run-none, run-more}
 
 -- the characters after the first one so far, and all of them as bytes
 pub record IsNamed (first : ℕ) (name text rest : List ℕ) : Type 0 where
@@ -44,23 +44,17 @@ named-name first name text between rest named begins is = (
 
 pub record IsStarted (q : ℕ) (string text rest : List ℕ) : Type 0 where
   pub characters : List ℕ
-  pub pieces : Pieces q characters text rest
+  pub pieces : Many (Piece q) characters text rest
   pub spelled : string ≡ encode_utf8_all characters
 
 pub started-none : (q : ℕ) (text : List ℕ) → IsStarted q [] text text
 started-none q text = record { characters = []; pieces = refl; spelled = refl }
 
-pieces-more : (q : ℕ) (cs : List ℕ) (c : ℕ) (text between rest : List ℕ) → Pieces q cs text between → Piece q c between rest
-    → Pieces q (cs ++ c ∷ []) text rest
-pieces-more q [] c text between rest same piece = (rest, subst (λ bs. Piece q c bs rest) (sym same) piece, refl)
-pieces-more q (d ∷ cs) c text between rest pieces piece =
-    (pieces.0, pieces.1, pieces-more q cs c pieces.0 between rest pieces.2 piece)
-
 pub started-more : (q : ℕ) (string text between rest : List ℕ) (c : ℕ) → IsStarted q string text between → Piece q c between rest
     → IsStarted q (string ++ encode_utf8 c) text rest
 started-more q string text between rest c started piece = record {
   characters = started.characters ++ c ∷ [];
-  pieces = pieces-more q started.characters c text between rest started.pieces piece;
+  pieces = many-more (Piece q) started.characters c text between rest started.pieces piece;
   spelled = ap (λ bs. bs ++ encode_utf8 c) started.spelled ∙ sym (encodes-more started.characters c);
 }
 

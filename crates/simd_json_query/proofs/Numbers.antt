@@ -5,7 +5,7 @@ use Rattle.std.specs.Char.{digit_value}
 use Rattle.std.specs.Int.Digits.{number_from_digits, number_from_digits_after}
 use Rattle.std.proofs.lemmas.Int.Digits.{number_after_append}
 use Rattle.std.proofs.lemmas.List.{append-nil, map-append}
-use Rattle.simd_json_query.specs.Queries.{IsNumeral, Natural, is_decimal}
+use Rattle.simd_json_query.specs.Steps.{IsNumeral, Natural, is_decimal}
 use Rattle.simd_json_query.specs.Spans.{Run}
 use Rattle.simd_json_query.proofs.Runs.{run-none, run-more}
 

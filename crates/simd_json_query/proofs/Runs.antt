@@ -1,19 +1,24 @@
--- Characters that are read one after the other.
-use Rattle.std.proofs.Common.{◌≡◌, ◌∙◌, ap, sym, refl, ℕ, List, [], ◌∷◌, ◌++◌, Bool, true, append_assoc}
+-- Parts and characters that are read one after the other.
+use Rattle.std.proofs.Common.{◌≡◌, ◌∙◌, ap, sym, refl, subst, ℕ, List, [], ◌∷◌, ◌++◌, Bool, true, append_assoc}
 use Rattle.std.specs.Prelude.{◌&&◌, encode_utf8, encode_utf8_all}
 use Rattle.std.specs.List.{list_all}
 use Rattle.std.proofs.lemmas.List.{append-nil}
 use Rattle.std.proofs.lemmas.List.Folds.{list_all-append}
 use Rattle.std.proofs.lemmas.Str.{encodes-append}
 use Rattle.simd_json_parts.specs.Bytes.{is_whitespace}
-use Rattle.simd_json_query.specs.Queries.{Blanks}
-use Rattle.simd_json_query.specs.Spans.{Run}
+use Rattle.simd_json_query.specs.Steps.{Blanks}
+use Rattle.simd_json_query.specs.Spans.{Many, Run}
 
 both : (a b : Bool) → a ≡ true → b ≡ true → (a && b) ≡ true
 both a b first second = cc
 
 pub encodes-more : (cs : List ℕ) (c : ℕ) → encode_utf8_all (cs ++ c ∷ []) ≡ encode_utf8_all cs ++ encode_utf8 c
 encodes-more cs c = encodes-append cs (c ∷ []) ∙ ap (λ bs. encode_utf8_all cs ++ bs) (append-nil (encode_utf8 c))
+
+pub many-more : {A : Type 0} (P : A → List ℕ → List ℕ → Type 0) (xs : List A) (x : A) (text between rest : List ℕ) → Many P xs text between
+    → P x between rest → Many P (xs ++ x ∷ []) text rest
+many-more P [] x text between rest same part = (rest, subst (λ bs. P x bs rest) (sym same) part, refl)
+many-more P (y ∷ xs) x text between rest parts part = (parts.0, parts.1, many-more P xs x parts.0 between rest parts.2 part)
 
 pub run-none : (p : ℕ → Bool) (text : List ℕ) → Run p [] text text
 run-none p text = record { whole = refl; kind = refl }

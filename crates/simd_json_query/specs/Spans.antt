@@ -1,6 +1,6 @@
 -- Parts of a text, in the manner of RFC 9535's grammar: each relates a text, in UTF-8, to what is left of it after the
 -- part.
-use Rattle.std.specs.Prelude.{◌≡◌, ◌⊎◌, ℕ, List, ◌++◌, Bool, true, encode_utf8, encode_utf8_all}
+use Rattle.std.specs.Prelude.{◌≡◌, ◌⊎◌, ℕ, List, [], ◌∷◌, ◌++◌, Bool, true, encode_utf8, encode_utf8_all}
 use Rattle.std.specs.List.{list_all}
 
 infixr 60 ◌then◌
@@ -20,6 +20,11 @@ Nothing text rest = ⊥
 -- the part of no characters
 abbrev pub Empty : List ℕ → List ℕ → Type 0
 Empty text rest = text ≡ rest
+
+-- parts one after the other
+abbrev pub Many : {A : Type 0} → (A → List ℕ → List ℕ → Type 0) → List A → List ℕ → List ℕ → Type 0
+Many P [] = Empty
+Many P (x ∷ xs) = P x then Many P xs
 
 -- a character
 abbrev pub Mark : ℕ → List ℕ → List ℕ → Type 0

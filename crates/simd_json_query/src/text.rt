@@ -10,6 +10,7 @@ mod integers;
 mod names;
 mod segments;
 mod selectors;
+mod steps;
 mod strings;
 
 use cursor::Stop;

@@ -1,16 +1,35 @@
 //! A text from which characters are read at the front.
 ghost use Rattle.std.specs.Prelude.{◌≡◌, ◌<◌, ◌≤◌, ◌++◌, IfSome, MatchOption, encode_utf8, [], length};
 ghost use Rattle.simd_json_parts.specs.Bytes.{is_whitespace};
-ghost use Rattle.simd_json_query.specs.Queries.{Blanks};
+ghost use Rattle.simd_json_query.specs.Steps.{Blanks};
 ghost use Rattle.simd_json_query.specs.Spans.{Mark};
 
 use crate::text::PathExpected;
+use std::alloc::{AllocError, AllocFailed};
 
 // Where reading stopped: how many bytes were left, and what was expected.
 #[derive(Clone, Copy, Debug, Drop)]
 pub(super) struct Stop {
     pub(super) left: usize,
     pub(super) expected: PathExpected,
+}
+
+impl From<AllocError> for Stop {
+    fn from(_: AllocError) -> Stop {
+        Stop {
+            left: 0,
+            expected: PathExpected::Memory,
+        }
+    }
+}
+
+impl<T: Drop> From<AllocFailed<T>> for Stop {
+    fn from(_: AllocFailed<T>) -> Stop {
+        Stop {
+            left: 0,
+            expected: PathExpected::Memory,
+        }
+    }
 }
 
 impl Stop {
@@ -23,8 +42,11 @@ impl Stop {
 }
 
 // The first character, and what is after it.
+#[tactic(auto, using(crate::proofs::Shorter::behind_shorter))]
 pub(super) fn next(rest: &str) -> Option<(char, &str)>
-    ensures { MatchOption result (rest.now ≡ []) (λ r. rest.now ≡ encode_utf8 r.0 ++ r.1.now) }
+    ensures character { MatchOption result (rest.now ≡ [])
+        (λ r. rest.now ≡ encode_utf8 r.0 ++ r.1.now) }
+    ensures shorter { IfSome result (λ r. length r.1.now < length rest.now) }
 {
     let mut chars = rest.chars();
     let first = chars.next()?;

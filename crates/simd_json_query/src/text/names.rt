@@ -1,8 +1,7 @@
 //! Names without quotes (RFC 9535, section 2.5.1.1).
 ghost use Rattle.std.specs.Prelude.{◌≡◌, ◌≤◌, ◌++◌, true, length, List, ℕ, IfOk, encode_utf8};
-ghost use Rattle.simd_json_query.specs.Queries.{Name, begins_name, is_in_name};
+ghost use Rattle.simd_json_query.specs.Steps.{Name, begins_name, is_in_name};
 
-use crate::text::PathExpected;
 use crate::text::cursor::{Stop, next};
 use bumpalo::Bump;
 use bumpalo::collections::into_bump_str;
@@ -20,17 +19,13 @@ pub(super) fn name<'path, 't, A: Allocator>(
     ensures shorter { IfOk result (λ r. length r.1.now ≤ length others.now) }
 {
     let mut name = String::new(arena);
-    if name.push(first).is_err() {
-        return Err(Stop::at(others, PathExpected::Memory));
-    }
+    name.push(first)?;
     let mut left = others;
     'name: while let Some((next, behind)) = next(left) {
         if !is_in_name(next) {
             return Ok((into_bump_str(name), left));
         }
-        if name.push(next).is_err() {
-            return Err(Stop::at(left, PathExpected::Memory));
-        }
+        name.push(next)?;
         left = behind;
     }
     Ok((into_bump_str(name), left))

@@ -1,16 +1,18 @@
 //! Segments (RFC 9535, section 2.5), and a whole query (section 2.1).
-ghost use Rattle.std.specs.Prelude.{◌<◌, ◌≤◌, length, IfOk};
-ghost use Rattle.simd_json_query.specs.Queries.{Member, Query, SegmentText};
+ghost use Rattle.std.specs.Prelude.{◌<◌, ◌≤◌, [], length, IfOk};
+ghost use Rattle.simd_json_query.specs.Queries.{Member, Query, SegmentText, Segments};
+ghost use Rattle.simd_json_query.specs.Steps.{Steps};
+ghost use Rattle.simd_json_query.specs.Spans.{◌then◌};
 
-use crate::filter::Step;
 use crate::query::{Segment, Selector};
 use crate::text::cursor::{Stop, after, next, skip_blanks};
 use crate::text::names::{begins_name, name};
 use crate::text::selectors::selection;
+use crate::text::steps::steps;
 use crate::text::{PathExpected, QueryParts};
 use bumpalo::Bump;
 use bumpalo::collections::into_bump_slice;
-use std::alloc::{AllocError, Allocator};
+use std::alloc::Allocator;
 
 static WILDCARD: [Selector<'static>; 1] = [Selector::Wildcard];
 
@@ -24,23 +26,50 @@ pub(super) fn query<'path, A: Allocator>(
     let Some(begin) = after(text, '$') else {
         return Err(Stop::at(text, PathExpected::Root));
     };
-    let mut left = begin;
-    let mut segments = Segments::new(arena);
-    'segments: while !left.is_empty() {
-        let (selectors, is_descendant, others) = segment(arena, skip_blanks(left))?;
-        if segments.push(selectors, is_descendant).is_err() {
-            return Err(Stop::at(left, PathExpected::Memory));
-        }
-        left = others;
-    }
-    match segments.finish() {
-        Ok(parts) => Ok(parts),
-        Err(_) => Err(Stop::at(left, PathExpected::Memory)),
-    }
+    let (steps, others) = steps(arena, begin)?;
+    Ok((steps, segments(arena, others)?))
 }
 
-// A segment, whether it is a descendant segment, and what is after it.
+// The segments of a whole text.
+fn segments<'path, A: Allocator>(
+    arena: &'path Bump<A>,
+    text: &str,
+) -> Result<&'path [Segment<'path>], Stop>
+    ensures { IfOk result (λ segments. Segments segments.now text.now []) }
+{
+    let mut segments = Vec::new(arena);
+    let mut left = text;
+    'segments: while !left.is_empty() {
+        let (segment, others) = segment(arena, skip_blanks(left))?;
+        segments.push(segment)?;
+        left = others;
+    }
+    Ok(into_bump_slice(segments))
+}
+
+// A segment with the steps that follow, and what is after it.
 fn segment<'path, 't, A: Allocator>(
+    arena: &'path Bump<A>,
+    rest: &'t str,
+) -> Result<(Segment<'path>, &'t str), Stop>
+    ensures segment { IfOk result (λ r. (SegmentText r.0.is_descendant r.0.selectors.now
+        then Steps r.0.steps.now) rest.now r.1.now) }
+    ensures shorter { IfOk result (λ r. length r.1.now < length rest.now) }
+{
+    let (selectors, is_descendant, others) = branch(arena, rest)?;
+    let (steps, others) = steps(arena, others)?;
+    Ok((
+        Segment {
+            selectors,
+            is_descendant,
+            steps,
+        },
+        others,
+    ))
+}
+
+// A segment's selectors, whether it is a descendant segment, and what is after it.
+fn branch<'path, 't, A: Allocator>(
     arena: &'path Bump<A>,
     rest: &'t str,
 ) -> Result<(&'path [Selector<'path>], bool, &'t str), Stop>
@@ -86,88 +115,5 @@ fn member<'path, 't, A: Allocator>(
     }
     let (name, others) = name(arena, first, others)?;
     let selectors = [Selector::Name(name)];
-    match arena.try_alloc_slice_copy(&selectors) {
-        Ok(selectors) => Ok((selectors, others)),
-        Err(_) => Err(Stop::at(rest, PathExpected::Memory)),
-    }
-}
-
-// The segments so far.
-#[derive(Drop)]
-struct Segments<'path, A: Allocator> {
-    arena: &'path Bump<A>,
-    // Where the first segment begins, if there is one.
-    start: &'path [Step<'path>],
-    // All but the last segment.
-    closed: Vec<Segment<'path>, &'path Bump<A>>,
-    // The last segment: its selectors, and whether it is a descendant segment.
-    last: Option<(&'path [Selector<'path>], bool)>,
-    // Since the last segment, or since the beginning.
-    steps: Vec<Step<'path>, &'path Bump<A>>,
-}
-
-impl<'path, A: Allocator> Segments<'path, A> {
-    fn new(arena: &'path Bump<A>) -> Self {
-        Segments {
-            arena,
-            start: &[],
-            closed: Vec::new(arena),
-            last: None,
-            steps: Vec::new(arena),
-        }
-    }
-
-    // One more; a child segment of one name or one index is a step.
-    fn push(
-        &mut self,
-        selectors: &'path [Selector<'path>],
-        is_descendant: bool,
-    ) -> Result<(), AllocError> {
-        if !is_descendant {
-            if let Some(step) = step_of(selectors) {
-                self.steps.push(step)?;
-                return Ok(());
-            }
-        }
-        self.close()?;
-        self.last = Some((selectors, is_descendant));
-        Ok(())
-    }
-
-    // The steps belong to the last segment, or come before the first.
-    fn close(&mut self) -> Result<(), AllocError> {
-        let steps = std::mem::replace(&mut self.steps, Vec::new(self.arena));
-        let steps = into_bump_slice(steps);
-        let Some((selectors, is_descendant)) = self.last.take() else {
-            self.start = steps;
-            return Ok(());
-        };
-        self.closed.push(Segment {
-            selectors,
-            is_descendant,
-            steps,
-        })?;
-        Ok(())
-    }
-
-    fn finish(mut self) -> Result<QueryParts<'path>, AllocError> {
-        self.close()?;
-        let Segments {
-            arena: _,
-            start,
-            closed,
-            last: _,
-            steps: _,
-        } = self;
-        Ok((start, into_bump_slice(closed)))
-    }
-}
-
-// The step for which selectors stand, if they are one name or one index.
-fn step_of<'path>(selectors: &'path [Selector<'path>]) -> Option<Step<'path>> {
-    match selectors {
-        [Selector::Name(name)] => Some(Step::Name(name)),
-        [Selector::Index(index)] => Some(Step::Index(*index)),
-        _ => None,
-    }
+    Ok((arena.try_alloc_slice_copy(&selectors)?, others))
 }

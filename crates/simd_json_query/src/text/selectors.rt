@@ -1,7 +1,8 @@
 //! Selectors (RFC 9535, section 2.3), and selections in brackets (section 2.5.1.1).
 ghost use Rattle.std.specs.Prelude.{◌≡◌, ◌≤◌, length, List, ℕ, IfOk};
 ghost use Rattle.simd_json_parts.specs.Bytes.{left_bracket};
-ghost use Rattle.simd_json_query.specs.Queries.{Blanks, Optional, Selection, SelectorText};
+ghost use Rattle.simd_json_query.specs.Queries.{Optional, Selection, SelectorText};
+ghost use Rattle.simd_json_query.specs.Steps.{Blanks};
 ghost use Rattle.simd_json_query.specs.Queries.{SliceStep};
 ghost use Rattle.simd_json_query.specs.Spans.{◌then◌, Mark};
 
@@ -9,7 +10,7 @@ use crate::query::{Selector, Slice};
 use crate::text::PathExpected;
 use crate::text::cursor::{Stop, after, skip_blanks};
 use crate::text::integers::{begins_integer, optional};
-use crate::text::strings::string;
+use crate::text::strings::quoted;
 use bumpalo::Bump;
 use bumpalo::collections::into_bump_slice;
 use std::alloc::Allocator;
@@ -26,9 +27,7 @@ pub(super) fn selection<'path, 't, A: Allocator>(
     let mut selectors = Vec::new(arena);
     let begin = skip_blanks(rest);
     let (first, mut left) = selector(arena, begin)?;
-    if selectors.push(first).is_err() {
-        return Err(Stop::at(left, PathExpected::Memory));
-    }
+    selectors.push(first)?;
     'more: loop {
         let end = skip_blanks(left);
         if let Some(others) = after(end, ']') {
@@ -38,9 +37,7 @@ pub(super) fn selection<'path, 't, A: Allocator>(
             return Err(Stop::at(end, PathExpected::Separator));
         };
         let (next, others) = selector(arena, skip_blanks(others))?;
-        if selectors.push(next).is_err() {
-            return Err(Stop::at(left, PathExpected::Memory));
-        }
+        selectors.push(next)?;
         left = others;
     }
 }
@@ -55,12 +52,7 @@ fn selector<'path, 't, A: Allocator>(
     if let Some(others) = after(rest, '*') {
         return Ok((Selector::Wildcard, others));
     }
-    if let Some(others) = after(rest, '\'') {
-        let (name, others) = string(arena, others, '\'')?;
-        return Ok((Selector::Name(name), others));
-    }
-    if let Some(others) = after(rest, '"') {
-        let (name, others) = string(arena, others, '"')?;
+    if let Some((name, others)) = quoted(arena, rest)? {
         return Ok((Selector::Name(name), others));
     }
     if begins_integer(rest) || after(rest, ':').is_some() {

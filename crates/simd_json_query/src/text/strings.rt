@@ -1,7 +1,7 @@
 //! Names in quotes (RFC 9535, section 2.3.1.1).
 ghost use Rattle.std.specs.Prelude.{◌≡◌, ◌≢◌, ◌<◌, ◌≤◌, ◌++◌, length, List, ℕ, IfOk, IfSome, encode_utf8};
 ghost use Rattle.simd_json_parts.specs.Bytes.{backslash, byte_at};
-ghost use Rattle.simd_json_query.specs.Queries.{Escaped, Piece, Quoted};
+ghost use Rattle.simd_json_query.specs.Steps.{Escaped, Piece, Quoted, StringText};
 ghost use Rattle.simd_json_query.specs.Spans.{Mark};
 
 use crate::text::PathExpected;
@@ -11,8 +11,26 @@ use bumpalo::collections::into_bump_str;
 use simd_json_scalars::stringparse::escape;
 use std::alloc::Allocator;
 
+// A name in quotes, if one is there, and what is after it.
+pub(super) fn quoted<'path, 't, A: Allocator>(
+    arena: &'path Bump<A>,
+    rest: &'t str,
+) -> Result<Option<(&'path str, &'t str)>, Stop>
+    ensures string { IfOk result (λ found. IfSome found (λ r.
+        StringText r.0.now rest.now r.1.now)) }
+    ensures shorter { IfOk result (λ found. IfSome found (λ r. length r.1.now ≤ length rest.now)) }
+{
+    if let Some(others) = after(rest, '"') {
+        return Ok(Some(string(arena, others, '"')?));
+    }
+    if let Some(others) = after(rest, '\'') {
+        return Ok(Some(string(arena, others, '\'')?));
+    }
+    Ok(None)
+}
+
 // The string that ends with the quote, and what is after that. The quote at its beginning is read.
-pub(super) fn string<'path, 't, A: Allocator>(
+fn string<'path, 't, A: Allocator>(
     arena: &'path Bump<A>,
     rest: &'t str,
     quote: char,
@@ -28,9 +46,7 @@ pub(super) fn string<'path, 't, A: Allocator>(
             return Ok((into_bump_str(string), others));
         }
         let (character, behind) = piece(left, first, others, quote)?;
-        if string.push(character).is_err() {
-            return Err(Stop::at(left, PathExpected::Memory));
-        }
+        string.push(character)?;
         left = behind;
     }
     Err(Stop::at(left, PathExpected::Character))

@@ -1,7 +1,7 @@
 use Rattle.std.proofs.Common.{◌≤◌, length}
 use denote.Text.{Utf8}
 use denote.Shadow.{shadow}
-use Rattle.simd_json_query.specs.Queries.{Blanks}
+use Rattle.simd_json_query.specs.Steps.{Blanks}
 use Rattle.simd_json_query.proofs.text.cursor.skip_blanks.Given as goal
 
 abbrev pub invariant-blanks : goal.invariant-blanks

@@ -3,9 +3,6 @@ use Rattle.std.specs.Char.{digit_value}
 use Rattle.simd_json_query.proofs.Numbers.{read-more, read-natural}
 use Rattle.simd_json_query.proofs.text.integers.more_digits.Goals as goal
 
-shorter : (between rest whole : List ℕ) (c : ℕ) → between ≡ encode_utf8 c ++ rest → length between ≤ length whole → length rest ≤ length whole
-shorter between rest whole c is fits = omega (arith, ap length is, length-append (encode_utf8 c) rest)
-
 no-zero : (first digit : ℕ) → digit_value first ≡ digit → 0 < digit → first ≢ 48
 no-zero first digit is some same = let zero : digit_value first ≡ 0 = ap digit_value same in absurd (omega (arith, is, zero))
 
@@ -25,8 +22,8 @@ digits-preserved c =
       omega arith,
       omega arith,
       rw is (read-more c.args.first c.digits.value c.args.others.now c.digits.left.now c.in-Some.behind.now c.in-Some.next c.digits.invariant.3
-          c.in-Some-to_digit.ensures.value.0 c.in-Some.ensures),
-      shorter _ _ _ _ c.in-Some.ensures c.digits.invariant.4,
+          c.in-Some-to_digit.ensures.value.0 c.in-Some.ensures.character),
+      omega (arith, c.in-Some.ensures.shorter, c.digits.invariant.4),
     )
 
 pub returns-clause-number : goal.returns-clause-number
