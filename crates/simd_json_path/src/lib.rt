@@ -41,7 +41,8 @@
 //! | name, wildcard, index, slice selectors (2.3.1 to 2.3.4) | [`Selector`] |
 //! | filter selectors (2.3.5): existence of a singular query, `!`, `&&`, `\|\|` | [`Test`] |
 //! | child and descendant segments (2.5) | [`Segment`] |
-//! | a query's text, comparisons, functions, normalized paths (2.7) | not yet |
+//! | a query's text, but filters in it | [`Path::new`] |
+//! | filters in a query's text, comparisons, functions, normalized paths (2.7) | not yet |
 //!
 //! The RFC leaves the order of an object's members open: here it is the text's. Of equal names a
 //! name selects the first; wildcards and descendant segments visit all.
@@ -77,6 +78,5 @@ pub use frame::Frame;
 pub use path::Path;
 pub use selected::{Selected, TooFewFrames};
 pub use simd_json_query::{
-    Comparable, Comparison, Literal, PathError, PathExpected, Segment, Selector, SingularQuery, Slice,
-    Step, Test,
+    PathError, PathExpected, Segment, Selector, SingularQuery, Slice, Step, Test,
 };

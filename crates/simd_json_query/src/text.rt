@@ -1,4 +1,7 @@
 //! The text of a query (RFC 9535, sections 2.1 to 2.5).
+ghost use Rattle.std.specs.Prelude.{◌≤◌, length, IfErr, IfOk};
+ghost use Rattle.simd_json_query.specs.Queries.{Query};
+
 use crate::filter::Step;
 use crate::query::Segment;
 use bumpalo::Bump;
@@ -91,7 +94,10 @@ pub type QueryParts<'path> = (&'path [Step<'path>], &'path [Segment<'path>]);
 pub fn read<'path, A: Allocator>(
     arena: &'path Bump<A>,
     text: &str,
-) -> Result<QueryParts<'path>, PathError> {
+) -> Result<QueryParts<'path>, PathError>
+    ensures query { IfOk result (λ r. Query r.0.now r.1.now text.now) }
+    ensures index { IfErr result (λ e. e.index ≤ length text.now) }
+{
     match segments::query(arena, text) {
         Ok(parts) => Ok(parts),
         Err(stop) => Err(PathError {
