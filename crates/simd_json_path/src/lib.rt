@@ -1,29 +1,19 @@
 //! JSONPath (RFC 9535): the values that a query selects of a [`Value`](simd_json::tape::Value).
 //!
-//! A [`Path`] is a query: slices of segments, selectors and tests that refer to one another, in
-//! constants, on the stack or in an arena. [`Path::select`] is an iterator over what it selects, in
-//! order, which allocates nothing and does not recurse: it keeps its place in [`Frame`]s that the
-//! caller lends.
+//! A [`Path`] is a query, which [`Path::new`] reads from text into an arena; or slices of segments,
+//! selectors and tests, in constants or on the stack. [`Path::select`] is an iterator over what it
+//! selects, in order, which allocates nothing and does not recurse: it keeps its place in
+//! [`Frame`]s that the caller lends.
 //!
 //! ```
+//! use bumpalo::Bump;
 //! use simd_json::tape::Value;
-//! use simd_json_path::{Frame, Path, Segment, Selector, Step, TooFewFrames};
+//! use simd_json_path::{Frame, Path};
 //!
-//! // The sum of `$.orders[*].items[*].price`, and whether each is an integer.
-//! fn total(value: &Value<'_, '_>) -> Result<Option<u64>, TooFewFrames> {
-//!     let each = Segment {
-//!         selectors: &[Selector::Wildcard],
-//!         is_descendant: false,
-//!         steps: &[Step::Name("items")],
-//!     };
-//!     let price = Segment {
-//!         steps: &[Step::Name("price")],
-//!         ..each
-//!     };
-//!     let path = Path {
-//!         steps: &[Step::Name("orders")],
-//!         segments: &[each, price],
-//!     };
+//! // The sum of the prices of all orders, or what failed.
+//! fn total(rt: &impl AllocGlobal, value: &Value<'_, '_>) -> anyhow::Result<Option<u64>> {
+//!     let arena = Bump::new(rt.alloc());
+//!     let path = Path::new(&arena, "$.orders[*].items[*].price")?;
 //!     let mut frames = [Frame::closed(); 2];
 //!     let mut sum = Some(0u64);
 //!     for price in path.select(value, &mut frames) {
