@@ -13,6 +13,7 @@ pub(crate) fn holds(test: &Test<'_>, root: Value<'_, '_>, node: Value<'_, '_>) -
 {
     match test {
         Test::Exists(query) => selected_node(query, root, node).is_some(),
+        Test::Compare(_, _, _) => false,
         Test::Not(inner) => !holds(inner, root, node),
         Test::And(left, right) => holds(left, root, node) && holds(right, root, node),
         Test::Or(left, right) => holds(left, root, node) || holds(right, root, node),

@@ -68,5 +68,6 @@ pub use frame::Frame;
 pub use path::Path;
 pub use selected::{Selected, TooFewFrames};
 pub use simd_json_query::{
-    PathError, PathExpected, Segment, Selector, SingularQuery, Slice, Step, Test,
+    Comparable, Comparison, Literal, PathError, PathExpected, Segment, Selector, SingularQuery, Slice,
+    Step, Test,
 };
