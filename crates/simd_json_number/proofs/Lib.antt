@@ -1,0 +1,3 @@
+pub mod Clamps
+pub mod DigitLists
+pub mod Orders

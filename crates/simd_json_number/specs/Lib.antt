@@ -1,0 +1,4 @@
+pub mod Numbers
+pub mod Padded
+pub mod Clamped
+pub mod Magnitudes
