@@ -2,3 +2,4 @@ pub mod Numbers
 pub mod Padded
 pub mod Clamped
 pub mod Magnitudes
+pub mod Meanings

@@ -5,7 +5,7 @@ use Rattle.std.specs.Ordering.{nat_cmp}
 use Rattle.std.specs.declared.cmp.Ordering.{Ordering}
 use Rattle.simd_json_parts.specs.Integers.{number_of}
 use Rattle.simd_json_number.specs.Clamped.{clamped}
-use Rattle.simd_json_number.specs.Numbers.{Number, digits, integer, positive_part}
+use Rattle.simd_json_number.specs.Numbers.{Decimal, digits, integer, positive_part}
 use Rattle.simd_json_number.specs.declared.literal.Literal.{Literal}
 
 abbrev pub magnitude : Literal → ℕ
@@ -14,7 +14,7 @@ magnitude l = number_from_digits 10 (digits l.significant.now)
 abbrev pub exponent : Literal → ℤ
 exponent l = integer l.exponent.now -ℤ pos (length (digits l.fraction.now))
 
-abbrev pub value : Literal → Number
+abbrev pub value : Literal → Decimal
 value l = record { coefficient = number_of l.is_negative (magnitude l); exponent = exponent l }
 
 abbrev pub scaled_magnitude : Literal → Literal → ℕ

@@ -9,7 +9,7 @@ use Rattle.simd_json_parts.specs.Integers.{number_of}
 use Rattle.simd_json_parts.specs.Numbers.{has_minus}
 
 -- a coefficient times a power of ten
-pub record Number : Type 0 where
+pub record Decimal : Type 0 where
   pub coefficient : ℤ
   pub exponent : ℤ
 
@@ -40,7 +40,7 @@ digits bs = map digit_value (filter is_ascii_digit bs)
 abbrev pub integer : List ℕ → ℤ
 integer bs = number_of (has_minus bs) (number_from_digits 10 (digits bs))
 
-abbrev pub meaning : List ℕ → Number
+abbrev pub meaning : List ℕ → Decimal
 meaning literal = record {
   coefficient = integer (significand literal);
   exponent = integer (exponent_part literal) -ℤ pos (length (digits (fraction literal)));
@@ -53,8 +53,8 @@ positive_part (pos n) = n
 positive_part (negsuc n) = 0
 
 -- the coefficient of one number with the smaller exponent of two
-abbrev pub scaled : Number → Number → ℤ
+abbrev pub scaled : Decimal → Decimal → ℤ
 scaled x y = x.coefficient *ℤ pos (10 ^ positive_part (x.exponent -ℤ y.exponent))
 
-abbrev pub compare : Number → Number → Ordering
+abbrev pub compare : Decimal → Decimal → Ordering
 compare x y = int_cmp (scaled x y) (scaled y x)

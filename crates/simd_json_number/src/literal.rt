@@ -22,7 +22,8 @@ pub(crate) struct Literal<'text> {
 
 impl<'text> Literal<'text> {
     ghost use Rattle.std.specs.Prelude.{◌≡◌};
-    ghost use Rattle.simd_json_number.specs.Magnitudes.{value};
+    ghost use Rattle.simd_json_number.specs.Magnitudes.{exponent, magnitude, value};
+    ghost use Rattle.simd_json_parts.specs.Integers.{number_of};
     ghost use Rattle.simd_json_number.specs.Numbers.{meaning};
 
     pub(crate) fn of(bytes: &'text [u8]) -> Literal<'text>
@@ -36,6 +37,21 @@ impl<'text> Literal<'text> {
             significant,
             fraction: after(significand, point_at(significand)),
             exponent: after(bytes, end),
+        }
+    }
+
+    // The same number, below zero or not.
+    pub(crate) fn with_sign(self, is_negative: bool) -> Literal<'text>
+        ensures magnitude { magnitude result ≡ magnitude self.entry }
+        ensures exponent { exponent result ≡ exponent self.entry }
+        ensures sign { number_of result.is_negative (magnitude self.entry)
+            ≡ number_of is_negative (magnitude self.entry) }
+    {
+        Literal {
+            is_negative: is_negative && !self.significant.is_empty(),
+            significant: self.significant,
+            fraction: self.fraction,
+            exponent: self.exponent,
         }
     }
 }

@@ -5,10 +5,10 @@ use Rattle.std.proofs.lemmas.Bool.Decides.{nat_tests}
 use Rattle.std.proofs.lemmas.Int.{ints}
 use Rattle.simd_json_parts.specs.Integers.{number_of}
 use Rattle.simd_json_number.specs.Magnitudes.{exponent, magnitude, scaled_magnitude, value}
-use Rattle.simd_json_number.specs.Numbers.{Number, compare, digits, meaning, positive_part}
+use Rattle.simd_json_number.specs.Numbers.{Decimal, compare, digits, meaning, positive_part}
 use Rattle.simd_json_number.specs.declared.literal.Literal.{Literal}
 use Rattle.simd_json_number.proofs.Orders.{some-number, some-scaled}
-use Rattle.simd_json_number.proofs.compare.Goals as goal
+use Rattle.simd_json_number.proofs.number.compare_literals.Goals as goal
 
 times : (s : Bool) (c k : ℕ) → number_of s c *ℤ pos k ≡ number_of s (c * k)
 times false c k = refl
@@ -30,9 +30,6 @@ some-magnitude l r is =
     some-scaled (magnitude l) (positive_part (exponent l -ℤ exponent r))
     (some-number (digits l.significant.now) (l.leading (l.below_zero (search rules))))
 
-meanings : (l r : Literal) (xs ys : List ℕ) → value l ≡ meaning xs → value r ≡ meaning ys → compare (value l) (value r) ≡ compare (meaning xs) (meaning ys)
-meanings l r xs ys is is' = ap (λ (a : Number). compare a (value r)) is ∙ ap (compare (meaning xs)) is'
-
 both-below : (m n : ℕ) → int_cmp (number_of true m) (number_of true n) ≡ nat_cmp n m
 both-below zero zero = refl
 both-below zero (suc n) = search rules
@@ -49,31 +46,22 @@ one-above m (suc n) some = refl
 
 pub returns-in-true-true : goal.returns-in-true-true
 returns-in-true-true c =
-    let l = c.of-left.result in
-    let r = c.of-right.result in
-    let left = c.of-left.ensures ∙ ap meaning c.as_bytes.ensures.value in
-    let right = c.of-right.ensures ∙ ap meaning c.as_bytes-2.ensures.value in
+    let l = c.args.left.now in
+    let r = c.args.right.now in
     c.compare_magnitudes.ensures
     ∙ sym (both-below (scaled_magnitude l r) (scaled_magnitude r l))
     ∙ sym (signed true true l r c.in-true-true.is-0 c.in-true-true.is-1)
-    ∙ meanings l r c.args.left.now c.args.right.now left right
 
 pub returns-in-true-false : goal.returns-in-true-false
 returns-in-true-false c =
-    let l = c.of-left.result in
-    let r = c.of-right.result in
-    let left = c.of-left.ensures ∙ ap meaning c.as_bytes.ensures.value in
-    let right = c.of-right.ensures ∙ ap meaning c.as_bytes-2.ensures.value in
+    let l = c.args.left.now in
+    let r = c.args.right.now in
     sym (one-below (scaled_magnitude l r) (scaled_magnitude r l) (some-magnitude l r c.in-true-false.is-0))
     ∙ sym (signed true false l r c.in-true-false.is-0 c.in-true-false.is-1)
-    ∙ meanings l r c.args.left.now c.args.right.now left right
 
 pub returns-in-false-true : goal.returns-in-false-true
 returns-in-false-true c =
-    let l = c.of-left.result in
-    let r = c.of-right.result in
-    let left = c.of-left.ensures ∙ ap meaning c.as_bytes.ensures.value in
-    let right = c.of-right.ensures ∙ ap meaning c.as_bytes-2.ensures.value in
+    let l = c.args.left.now in
+    let r = c.args.right.now in
     sym (one-above (scaled_magnitude l r) (scaled_magnitude r l) (some-magnitude r l c.in-false-true.is-1))
     ∙ sym (signed false true l r c.in-false-true.is-0 c.in-false-true.is-1)
-    ∙ meanings l r c.args.left.now c.args.right.now left right
