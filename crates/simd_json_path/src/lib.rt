@@ -59,11 +59,15 @@ mod frame;
 mod frames;
 pub mod laws;
 mod opened;
+mod operand;
 mod path;
 mod picked;
+mod same;
+mod scalar;
 mod selected;
 mod slice;
 
+pub use filter::Filter;
 pub use frame::Frame;
 pub use path::Path;
 pub use selected::{Selected, TooFewFrames};

@@ -3,6 +3,7 @@ use simd_json_path::{Frame, Path, Segment, Selector, TooFewFrames};
 use std::process::Abort;
 use std::test::Fail;
 
+mod comparisons;
 mod examples;
 mod filters;
 mod frames;
