@@ -59,13 +59,13 @@ meaning-decimal n few =
     let whole : significand ds ≡ ds = ap (λ k. take k ds) (no-e ds all) ∙ take_all (length ds) ds (omega arith) in
     let none : exponent_part ds ≡ [] = drop_all (position_or_len is_e ds + 1) ds (omega (arith, no-e ds all)) in
     let none' : fraction ds ≡ [] =
-        ap (after_first is_point) whole ∙ drop_all (position_or_len is_point ds + 1) ds (omega (arith, no-point ds all)) in
+    ap (after_first is_point) whole ∙ drop_all (position_or_len is_point ds + 1) ds (omega (arith, no-point ds all)) in
     let number : number_from_digits 10 (digits ds) ≡ n =
-        ap (number_from_digits 10) (digits-all ds all) ∙ sym (digits_value_is 10 ds) ∙ is.1 in
+    ap (number_from_digits 10) (digits-all ds all) ∙ sym (digits_value_is 10 ds) ∙ is.1 in
     let coefficient : integer (significand ds) ≡ pos n =
-        ap integer whole ∙ ap (λ s. number_of s (number_from_digits 10 (digits ds))) (no-minus ds all) ∙ ap pos number in
+    ap integer whole ∙ ap (λ s. number_of s (number_from_digits 10 (digits ds))) (no-minus ds all) ∙ ap pos number in
     let exponent : integer (exponent_part ds) -ℤ pos (length (digits (fraction ds))) ≡ pos 0 =
-        ap (λ bs. integer bs -ℤ pos (length (digits (fraction ds)))) none ∙ ap (λ bs. integer [] -ℤ pos (length (digits bs))) none' in
+    ap (λ bs. integer bs -ℤ pos (length (digits (fraction ds)))) none ∙ ap (λ bs. integer [] -ℤ pos (length (digits bs))) none' in
     decimals _ _ _ _ coefficient exponent
 
 pub magnitude-of : (s : Bool) (m n : ℕ) → number_of s m ≡ pos n → m ≡ n

@@ -27,11 +27,17 @@ impl Digits<'_> {
         while let Some((first, others)) = left.split_first() {
             left = others;
             if first.is_ascii_digit() {
-                *self = Digits { zeros: 0, bytes: left };
+                *self = Digits {
+                    zeros: 0,
+                    bytes: left,
+                };
                 return *first - b'0';
             }
         }
-        *self = Digits { zeros: 0, bytes: left };
+        *self = Digits {
+            zeros: 0,
+            bytes: left,
+        };
         0
     }
 }

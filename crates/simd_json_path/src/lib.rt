@@ -29,13 +29,22 @@
 //! | RFC 9535 | here |
 //! |---|---|
 //! | name, wildcard, index, slice selectors (2.3.1 to 2.3.4) | [`Selector`] |
-//! | filter selectors (2.3.5): existence of a singular query, `!`, `&&`, `\|\|` | [`Test`] |
+//! | filter selectors (2.3.5): existence and comparisons of singular queries, `!`, `&&`, `\|\|` | [`Test`] |
+//! | `length`, `count` and `value` (2.4) of singular queries | [`Comparable`] |
+//! | a filter by itself, of one value | [`Filter`] |
 //! | child and descendant segments (2.5) | [`Segment`] |
 //! | a query's text, but filters in it | [`Path::new`] |
-//! | filters in a query's text, comparisons, functions, normalized paths (2.7) | not yet |
+//! | filters in a query's text, `match`, `search`, normalized paths (2.7) | not yet |
 //!
 //! The RFC leaves the order of an object's members open: here it is the text's. Of equal names a
 //! name selects the first; wildcards and descendant segments visit all.
+//!
+//! Numbers are compared by their values, exactly, by
+//! [`simd_json_number`](simd_json_number::Number); strings by their characters; arrays and objects
+//! by what is in them, objects without order and of equal names by the first value. The comparison
+//! recurses to at most 128 levels of arrays and objects; what is nested deeper is equal where it is
+//! written in the same order with the same literals. Its time grows with the square of the number
+//! of an object's members.
 //!
 //! # Frames
 //!
@@ -72,6 +81,6 @@ pub use frame::Frame;
 pub use path::Path;
 pub use selected::{Selected, TooFewFrames};
 pub use simd_json_query::{
-    Comparable, Comparison, Literal, PathError, PathExpected, Segment, Selector, SingularQuery, Slice,
-    Step, Test,
+    Comparable, Comparison, Literal, PathError, PathExpected, Segment, Selector, SingularQuery,
+    Slice, Step, Test,
 };

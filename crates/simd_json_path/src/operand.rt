@@ -21,7 +21,8 @@ pub(crate) enum Operand<'path, 'tape, 'input> {
     Node(Value<'tape, 'input>),
 }
 
-// How many levels of arrays and objects are compared by their values.
+// How many levels of arrays and objects are compared by their values: the comparison recurses, and
+// the stack that it takes is bounded.
 const LEVELS: usize = 128;
 
 // What is compared, in a query that is applied to `root`. It recurses over calls of `length`.

@@ -1,5 +1,6 @@
 // Comparisons: RFC 9535, sections 2.3.5.2.2, 2.3.5.3 and 2.4, and values worked by hand.
 use crate::tests::{Tested, assert_selects, child};
+use bumpalo::Bump;
 use simd_json::to_tape;
 use simd_json_path::{
     Comparable, Comparison, Filter, Literal, Selector, SingularQuery, Step, Test,
@@ -90,18 +91,38 @@ fn filters(rt: HostRuntime) -> Tested {
     let x = Comparable::Query(SingularQuery::Absolute(&[Step::Name("x")]));
     let is_kilo = Test::Compare(b, Comparison::Equal, string("kilo"));
     let filter = [Selector::Filter(&is_kilo)];
-    assert_selects(&rt, FILTERED, &[child(&a), child(&filter)], &["{\"b\":\"kilo\"}"]);
+    assert_selects(
+        &rt,
+        FILTERED,
+        &[child(&a), child(&filter)],
+        &["{\"b\":\"kilo\"}"],
+    );
     let is_more = Test::Compare(itself, Comparison::Greater, number("3.5"));
     let filter = [Selector::Filter(&is_more)];
-    assert_selects(&rt, FILTERED, &[child(&a), child(&filter)], &["5", "4", "6"]);
+    assert_selects(
+        &rt,
+        FILTERED,
+        &[child(&a), child(&filter)],
+        &["5", "4", "6"],
+    );
     let is_few = Test::Compare(itself, Comparison::Less, number("3"));
     let twice = [Selector::Filter(&is_few), Selector::Filter(&is_few)];
-    assert_selects(&rt, FILTERED, &[child(&o), child(&twice)], &["1", "2", "1", "2"]);
+    assert_selects(
+        &rt,
+        FILTERED,
+        &[child(&o), child(&twice)],
+        &["1", "2", "1", "2"],
+    );
     let is_k = Test::Compare(b, Comparison::Equal, string("k"));
     let is_one = Test::Compare(itself, Comparison::Less, number("2"));
     let either = Test::Or(&is_one, &is_k);
     let filter = [Selector::Filter(&either)];
-    assert_selects(&rt, FILTERED, &[child(&a), child(&filter)], &["1", "{\"b\":\"k\"}"]);
+    assert_selects(
+        &rt,
+        FILTERED,
+        &[child(&a), child(&filter)],
+        &["1", "{\"b\":\"k\"}"],
+    );
     let is_above = Test::Compare(itself, Comparison::Greater, number("1"));
     let is_below = Test::Compare(itself, Comparison::Less, number("4"));
     let between = Test::And(&is_above, &is_below);
@@ -140,8 +161,14 @@ fn numbers_by_their_values(rt: HostRuntime) -> Tested {
         ("-0", "0"),
         ("-0.0e7", "0"),
         ("100", "1e2"),
-        ("340282366920938463463374607431768211455", "340282366920938463463374607431768211455.0"),
-        ("-170141183460469231731687303715884105728", "-170141183460469231731687303715884105728e0"),
+        (
+            "340282366920938463463374607431768211455",
+            "340282366920938463463374607431768211455.0",
+        ),
+        (
+            "-170141183460469231731687303715884105728",
+            "-170141183460469231731687303715884105728e0",
+        ),
         ("0.10e100000000000000000000", "1e99999999999999999999"),
         ("1000e-100000000000000000002", "1e-99999999999999999999"),
     ];
@@ -156,7 +183,10 @@ fn numbers_by_their_values(rt: HostRuntime) -> Tested {
         ("-1.0000000000000000000000000000000000000000001", "-1"),
         ("9007199254740992.5", "9007199254740993"),
         ("9007199254740992", "9007199254740993"),
-        ("340282366920938463463374607431768211455", "340282366920938463463374607431768211455.5"),
+        (
+            "340282366920938463463374607431768211455",
+            "340282366920938463463374607431768211455.5",
+        ),
         ("-1", "0"),
         ("-1e-99999999999999999999", "0"),
         ("0", "1e-99999999999999999999"),
@@ -171,7 +201,14 @@ fn numbers_by_their_values(rt: HostRuntime) -> Tested {
         assert_compares(&rt, one, itself, Comparison::Less, number(other), true);
         assert_compares(&rt, other, itself, Comparison::Greater, number(one), true);
         assert_compares(&rt, one, itself, Comparison::Equal, number(other), false);
-        assert_compares(&rt, other, itself, Comparison::LessOrEqual, number(one), false);
+        assert_compares(
+            &rt,
+            other,
+            itself,
+            Comparison::LessOrEqual,
+            number(one),
+            false,
+        );
     }
     Ok(())
 }
@@ -189,10 +226,24 @@ fn strings_by_their_characters(rt: HostRuntime) -> Tested {
     ];
     for (one, other) in less {
         assert_compares(&rt, one, itself, Comparison::Less, string(other), true);
-        assert_compares(&rt, one, itself, Comparison::GreaterOrEqual, string(other), false);
+        assert_compares(
+            &rt,
+            one,
+            itself,
+            Comparison::GreaterOrEqual,
+            string(other),
+            false,
+        );
         assert_compares(&rt, one, itself, Comparison::Equal, string(other), false);
     }
-    assert_compares(&rt, "\"\\u00e9\"", itself, Comparison::Equal, string("\u{E9}"), true);
+    assert_compares(
+        &rt,
+        "\"\\u00e9\"",
+        itself,
+        Comparison::Equal,
+        string("\u{E9}"),
+        true,
+    );
     Ok(())
 }
 
@@ -239,33 +290,85 @@ fn functions(rt: HostRuntime) -> Tested {
         ("{\"a\":1,\"b\":{}}", "2"),
     ];
     for (document, wanted) in rows {
-        assert_compares(&rt, document, length, Comparison::Equal, number(wanted), true);
+        assert_compares(
+            &rt,
+            document,
+            length,
+            Comparison::Equal,
+            number(wanted),
+            true,
+        );
     }
     let nothing = Comparable::Query(a);
     for document in ["1", "1.5", "true", "null"] {
         assert_compares(&rt, document, length, Comparison::Equal, nothing, true);
     }
     let of_text = string("\u{1D11E}");
-    assert_compares(&rt, "1", Comparable::Length(&of_text), Comparison::Equal, number("1"), true);
-    assert_compares(&rt, "\"b\"", Comparable::Length(&length), Comparison::Equal, nothing, true);
+    assert_compares(
+        &rt,
+        "1",
+        Comparable::Length(&of_text),
+        Comparison::Equal,
+        number("1"),
+        true,
+    );
+    assert_compares(
+        &rt,
+        "\"b\"",
+        Comparable::Length(&length),
+        Comparison::Equal,
+        nothing,
+        true,
+    );
     let count = Comparable::Count(a);
-    assert_compares(&rt, "{\"a\":null}", count, Comparison::Equal, number("1.0"), true);
-    assert_compares(&rt, "{\"b\":null}", count, Comparison::Equal, number("0"), true);
+    assert_compares(
+        &rt,
+        "{\"a\":null}",
+        count,
+        Comparison::Equal,
+        number("1.0"),
+        true,
+    );
+    assert_compares(
+        &rt,
+        "{\"b\":null}",
+        count,
+        Comparison::Equal,
+        number("0"),
+        true,
+    );
     let value = Comparable::Value(a);
-    assert_compares(&rt, "{\"a\":7}", value, Comparison::Equal, number("7"), true);
+    assert_compares(
+        &rt,
+        "{\"a\":7}",
+        value,
+        Comparison::Equal,
+        number("7"),
+        true,
+    );
     assert_compares(&rt, "{\"b\":7}", value, Comparison::Equal, nothing, true);
     Ok(())
 }
 
 #[test]
 fn many_operands_take_no_stack(rt: HostRuntime) -> Tested {
+    let arena = Bump::new(rt.alloc());
     let itself = Test::Exists(SingularQuery::Relative(&[]));
-    let inner = Test::And(&itself, &itself);
-    let test = Test::Or(&Test::Not(&inner), &inner);
-    let filter = Filter { test: &test };
+    let nothing = Test::Not(&itself);
+    let mut all = &itself;
+    let mut one = &itself;
+    for _ in 0..100_000 {
+        let more = arena.try_alloc_slice_copy(&[Test::And(&itself, all), Test::Or(&nothing, one)])?;
+        assert_eq!(rt; more.len(), 2);
+        all = &more[0];
+        one = &more[1];
+    }
     let mut input = *b"[0]";
     let tape = to_tape(rt.alloc(), &mut input)?;
     assert!(rt; !tape.is_empty());
+    let filter = Filter { test: all };
+    assert!(rt; filter.holds(&tape.as_value()));
+    let filter = Filter { test: one };
     assert!(rt; filter.holds(&tape.as_value()));
     Ok(())
 }

@@ -34,8 +34,8 @@ so-far s t i xs ys d x y more more' is left right p q =
     let left' = ap (number_of s) (number_more 10 xs i more) ∙ number_of-more s a (get_or xs i 0) in
     let right' = ap (number_of t) (number_more 10 ys i more') ∙ number_of-more t b (get_or ys i 0) in
     let joined : pos 10 *ℤ (number_of s a -ℤ number_of t b) +ℤ x -ℤ y
-        ≡ number_of s (number_from_digits 10 (take (i + 1) xs)) -ℤ number_of t (number_from_digits 10 (take (i + 1) ys)) =
-        omega (arith, ints) in
+    ≡ number_of s (number_from_digits 10 (take (i + 1) xs)) -ℤ number_of t (number_from_digits 10 (take (i + 1) ys)) =
+    omega (arith, ints) in
     ap (λ (e : ℤ). clamped (pos 10 *ℤ e +ℤ x -ℤ y)) is
     ∙ clamped-more (number_of s a -ℤ number_of t b) x y p q
     ∙ ap clamped joined
@@ -69,11 +69,11 @@ loop-place-preserved c =
     let more : i < length xs = omega (arith, length-append (replicate n 0) (digits left), length-replicate {A = ℕ} n 0) in
     let more' : i < length ys = omega (arith, length-append (replicate m 0) (digits right), length-replicate {A = ℕ} m 0) in
     let left_is : c.signed-left_digit.result ≡ number_of (has_minus left) (get_or xs i 0) =
-        c.signed-left_digit.ensures.value ∙ ap (λ s. number_of s c.next.result) c.has_minus.ensures
-        ∙ ap (number_of (has_minus left)) (digit-at i xs _ _ c.next.ensures.digit c.loop-place.invariant.left) in
+    c.signed-left_digit.ensures.value ∙ ap (λ s. number_of s c.next.result) c.has_minus.ensures
+    ∙ ap (number_of (has_minus left)) (digit-at i xs _ _ c.next.ensures.digit c.loop-place.invariant.left) in
     let right_is : c.signed-right_digit.result ≡ number_of (has_minus right) (get_or ys i 0) =
-        c.signed-right_digit.ensures.value ∙ ap (λ s. number_of s c.next-in-loop-place.result) c.has_minus-in-loop-place.ensures
-        ∙ ap (number_of (has_minus right)) (digit-at i ys _ _ c.next-in-loop-place.ensures.digit c.loop-place.invariant.right) in
+    c.signed-right_digit.ensures.value ∙ ap (λ s. number_of s c.next-in-loop-place.result) c.has_minus-in-loop-place.ensures
+    ∙ ap (number_of (has_minus right)) (digit-at i ys _ _ c.next-in-loop-place.ensures.digit c.loop-place.invariant.right) in
     let x : ℤ = c.signed-left_digit.result in
     let y : ℤ = c.signed-right_digit.result in
     let x-bits : to_z w128 (of_z w128 x) ≡ x = omega (arith, ints) in

@@ -54,7 +54,7 @@ same_pairs-returns-then-not-same_value t c =
     let left = pairs c.args.left in
     let right = pairs c.args.right in
     let rest : drop c.loop-passed.passed (keys left) ≡ c.in-Some.key.now ∷ keys_left c.next.new.self =
-        sym c.loop-passed.invariant.rest ∙ c.in-Some.ensures.steps in
+    sym c.loop-passed.invariant.rest ∙ c.in-Some.ensures.steps in
     let not-here : same_at (same_to c.args.levels) left right c.in-Some.key.now ≡ false = search (rules, c.same_value.ensures) in
     sym (rest-false (same_at (same_to c.args.levels) left right) c.loop-passed.passed (keys left) (keys_left c.next.new.self)
     c.in-Some.key.now rest not-here)
@@ -68,13 +68,13 @@ same_pairs-loop-passed-preserved t c =
     let p = same_at (same_to c.args.levels) left right in
     let rest : drop i (keys left) ≡ key ∷ keys_left c.next.new.self = sym c.loop-passed.invariant.rest ∙ c.in-Some.ensures.steps in
     let here : p key ≡ true =
-        elim c.else-not-is_among.branch [
-          | same_pairs-else-not-is_among-via-then-not-is_among+else-not-same_value w ↦ search (rules, w.same_value.ensures)
-          | same_pairs-else-not-is_among-via-else-not-is_among w ↦
-              let found : list_any (λ other. bytes_eq other key) (take i (keys left)) ≡ true =
-                  sym (c.is_among.ensures ∙ ap (λ ks. list_any (λ other. bytes_eq other key) (take i ks)) c.keys.ensures) ∙ search rules in
-              among-true p key (take i (keys left)) found c.loop-passed.invariant.so_far
-        ] in
+    elim c.else-not-is_among.branch [
+      | same_pairs-else-not-is_among-via-then-not-is_among+else-not-same_value w ↦ search (rules, w.same_value.ensures)
+      | same_pairs-else-not-is_among-via-else-not-is_among w ↦
+          let found : list_any (λ other. bytes_eq other key) (take i (keys left)) ≡ true =
+          sym (c.is_among.ensures ∙ ap (λ ks. list_any (λ other. bytes_eq other key) (take i ks)) c.keys.ensures) ∙ search rules in
+          among-true p key (take i (keys left)) found c.loop-passed.invariant.so_far
+    ] in
     record {
       within = omega arith;
       rest = sym (rest-drop i (keys left) (keys_left c.next.new.self) key rest);

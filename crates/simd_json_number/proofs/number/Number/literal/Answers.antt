@@ -13,7 +13,7 @@ returns-in-Integer c =
     let n = c.in-Integer.magnitude in
     let l = c.of.result in
     let is : value l ≡ record { coefficient = pos n; exponent = pos 0 } =
-        c.of.ensures ∙ ap meaning (c.as_bytes.ensures.value ∙ c.format.ensures.text) ∙ meaning-decimal n (omega arith) in
+    c.of.ensures ∙ ap meaning (c.as_bytes.ensures.value ∙ c.format.ensures.text) ∙ meaning-decimal n (omega arith) in
     let coefficient : number_of l.is_negative (magnitude l) ≡ pos n = ap (λ (d : Decimal). d.coefficient) is in
     let size : magnitude l ≡ n = magnitude-of l.is_negative (magnitude l) n coefficient in
     let r = c.with_sign.result in
