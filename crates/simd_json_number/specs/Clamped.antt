@@ -1,5 +1,5 @@
 -- An integer between two bounds.
-use Rattle.std.specs.Prelude.{ℕ, ◌^◌, ◌≤ℤ◌, ℤ, pos, neg_ℤ}
+use Rattle.std.specs.Prelude.{◌^◌, ◌≤ℤ◌, ℤ, pos, neg_ℤ}
 use Rattle.std.specs.Int.{int_max, int_min}
 
 abbrev pub limit : ℤ

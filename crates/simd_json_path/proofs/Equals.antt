@@ -1,21 +1,21 @@
 -- When two values are equal: by their kinds, and by the names of two objects.
-use Rattle.std.proofs.Common.{◌≡◌, ◌∙◌, ap, sym, refl, ◌+◌, ◌<◌, ℕ, zero, suc, List, [], ◌∷◌, ◌++◌, length, drop, take, arith, rules}
+use Rattle.std.proofs.Common.{◌≡◌, ◌∙◌, ap, sym, refl, ◌+◌, ℕ, zero, suc, List, [], ◌∷◌, drop, take, arith}
 use Rattle.std.proofs.Common.{inl, inr, Bool, true, false, cond, Option, Some, None}
-use Rattle.std.specs.Prelude.{◌&&◌, ◌||◌, is_some, bytes_eq, nat_le}
+use Rattle.std.specs.Prelude.{◌&&◌, is_some, bytes_eq, nat_le}
 use Rattle.std.specs.List.{list_all, list_any}
 use Rattle.std.proofs.lemmas.Bool.{cases_Bool, false≢true, or_cases}
 use Rattle.std.proofs.lemmas.List.{drop-drop}
 use Rattle.std.proofs.lemmas.List.Folds.{list_all-append}
 use Rattle.std.proofs.lemmas.Slice.Eq.{bytes_eq-Decides}
-use Rattle.simd_json_parts.specs.Document.{Document, null, boolean, integer, decimal, string, array, object, Elements, elements, Members, no_members, member}
+use Rattle.simd_json_parts.specs.Document.{Document, null, boolean, integer, decimal, string, array, object, Elements, Members, no_members, member}
 use Rattle.simd_json_parts.specs.Equality.{equal}
 use Rattle.simd_json_parts.specs.Views.{first_with, is_array, is_object, keys}
-use Rattle.simd_json_parts.specs.Integers.{integer_node, max_magnitude_64, number_of}
+use Rattle.simd_json_parts.specs.Integers.{integer_node, max_magnitude_64}
 use Rattle.simd_json_parts.specs.Listing.{listing}
 use Rattle.simd_json_parts.specs.Nodes.{Item, static_item}
 use Rattle.simd_json_parts.specs.declared.node.StaticNode.{StaticNode}
 use Rattle.simd_json_path.specs.Operands.{item_primitive}
-use Rattle.simd_json_path.specs.Comparisons.{Primitive, both, both_or_none, primitive, same_at, same_lists, same_members, same_primitives, same_to}
+use Rattle.simd_json_path.specs.Comparisons.{Primitive, both, both_or_none, primitive, same_at, same_members, same_primitives, same_to}
 
 -- ---- kinds
 

@@ -1,7 +1,7 @@
 -- What is selected of a document is less deep.
-use Rattle.std.proofs.Common.{◌≡◌, ◌≤◌, ◌+◌, ℕ, zero, suc, max, List, [], ◌∷◌, ◌++◌, length, drop, take, arith}
+use Rattle.std.proofs.Common.{◌≤◌, ℕ, zero, suc, max, List, [], ◌∷◌, ◌++◌, length, drop, take, arith}
 use Rattle.std.proofs.Common.{Bool, true, false, cond, Option, Some, None}
-use Rattle.std.specs.Prelude.{filter, flat_map, option_and_then, slice_get, bytes_eq, reverse, ℤ, pos, negsuc}
+use Rattle.std.specs.Prelude.{filter, option_and_then, slice_get, bytes_eq, reverse, ℤ, pos, negsuc}
 use mathlib.Core.List.{reverse_aux}
 use Rattle.std.specs.Option.{option_to_list}
 use Rattle.simd_json_parts.specs.Document.{Document, array, object, Elements, no_elements, element, elements, Members, no_members, member}

@@ -6,7 +6,7 @@ use Rattle.std.specs.Prelude.{not, ◌&&◌, flat_map, is_some, map}
 use Rattle.std.specs.List.{list_all}
 use Rattle.std.proofs.lemmas.List.{map-append}
 use Rattle.std.proofs.lemmas.List.Folds.{list_all-append}
-use Rattle.simd_json_parts.specs.Document.{Document, null, boolean, integer, decimal, string, array, object}
+use Rattle.simd_json_parts.specs.Document.{Document, array, object}
 use Rattle.simd_json_parts.specs.Limits.{depth}
 use Rattle.simd_json.specs.Beneath.{children}
 use Rattle.simd_json_path.specs.Paths.{followed, selected, selected_by, selected_by_all}

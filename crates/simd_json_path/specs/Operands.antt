@@ -2,7 +2,7 @@
 use Rattle.std.specs.Prelude.{false, Option, Some, None, pos}
 use Rattle.simd_json_parts.specs.Document.{Document, integer}
 use Rattle.simd_json.specs.Viewed.{doc}
-use Rattle.simd_json_parts.specs.Nodes.{Item, static_item, decimal_item, string_item, array_item, object_item}
+use Rattle.simd_json_parts.specs.Nodes.{Item, static_item, decimal_item, string_item}
 use Rattle.simd_json_parts.specs.declared.node.StaticNode.TheVariants as fixed
 use Rattle.simd_json_number.specs.Numbers.{meaning}
 use Rattle.simd_json_number.specs.Meanings as meanings

@@ -1,6 +1,6 @@
-use Rattle.std.proofs.Common.{◌≡◌, ◌∙◌, ap, sym, refl, ◌+◌, ◌-◌, ℕ, suc, List, drop, arith, Ordering, Equal}
+use Rattle.std.proofs.Common.{◌≡◌, ◌∙◌, ap, sym, ◌-◌, ℕ, suc, List, drop, arith}
 use Rattle.std.specs.Prelude.{slice_index}
-use Rattle.std.specs.Ordering.{nat_cmp, ordering_then}
+use Rattle.std.specs.Ordering.{ordering_then}
 use Rattle.simd_json_number.specs.Padded.{compare_first, digits_left}
 use Rattle.simd_json_number.proofs.DigitLists.{equal-is}
 use Rattle.simd_json_number.proofs.magnitude.compare_digits.Goals as goal

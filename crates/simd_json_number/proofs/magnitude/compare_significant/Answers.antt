@@ -1,5 +1,5 @@
-use Rattle.std.proofs.Common.{◌≡◌, ◌∙◌, ap, sym, ◌<◌, ◌*◌, ◌^◌, ℕ, max, length, arith}
-use Rattle.std.specs.Prelude.{slice_index, ℤ, pos, ◌<ℤ◌}
+use Rattle.std.proofs.Common.{◌≡◌, ◌∙◌, ap, sym, ℕ, max, length, arith}
+use Rattle.std.specs.Prelude.{ℤ}
 use Rattle.std.proofs.lemmas.Int.{ints}
 use Rattle.simd_json_number.specs.Magnitudes.{first_apart}
 use Rattle.simd_json_number.specs.declared.literal.Literal.{Literal}

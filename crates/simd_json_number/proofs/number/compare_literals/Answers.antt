@@ -1,11 +1,11 @@
-use Rattle.std.proofs.Common.{◌≡◌, ◌∙◌, ap, sym, refl, ◌*◌, ◌^◌, ◌<◌, ℕ, suc, zero, Bool, true, false, List, arith, rules, Ordering, Less, Greater}
+use Rattle.std.proofs.Common.{◌≡◌, ◌∙◌, ap, sym, refl, ◌*◌, ◌^◌, ◌<◌, ℕ, suc, zero, Bool, true, false, arith, rules, Less, Greater}
 use Rattle.std.specs.Prelude.{ℤ, pos, ◌-ℤ◌, ◌*ℤ◌}
 use Rattle.std.specs.Ordering.{int_cmp, nat_cmp}
 use Rattle.std.proofs.lemmas.Bool.Decides.{nat_tests}
 use Rattle.std.proofs.lemmas.Int.{ints}
 use Rattle.simd_json_parts.specs.Integers.{number_of}
 use Rattle.simd_json_number.specs.Magnitudes.{exponent, magnitude, scaled_magnitude, value}
-use Rattle.simd_json_number.specs.Numbers.{Decimal, compare, digits, meaning, positive_part}
+use Rattle.simd_json_number.specs.Numbers.{compare, digits, positive_part}
 use Rattle.simd_json_number.specs.declared.literal.Literal.{Literal}
 use Rattle.simd_json_number.proofs.Orders.{some-number, some-scaled}
 use Rattle.simd_json_number.proofs.number.compare_literals.Goals as goal

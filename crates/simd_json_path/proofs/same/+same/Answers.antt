@@ -1,11 +1,11 @@
-use Rattle.std.proofs.Common.{◌≡◌, ◌∙◌, ap, sym, ◌+◌, ◌-◌, ◌<◌, ℕ, suc, List, ◌∷◌, drop, take, length, Bool, true, false, arith, rules, bytes_eq}
-use Rattle.std.specs.Prelude.{◌&&◌, is_some, Some}
+use Rattle.std.proofs.Common.{◌≡◌, ◌∙◌, ap, sym, ◌-◌, ℕ, suc, ◌∷◌, drop, take, true, false, arith, rules, bytes_eq}
+use Rattle.std.specs.Prelude.{◌&&◌, is_some}
 use Rattle.std.specs.List.{list_all, list_any}
 use Rattle.simd_json.specs.Iterated.{keys_left}
 use Rattle.simd_json.specs.Viewed.{doc, pairs}
 use Rattle.simd_json_parts.specs.Document.{Document, object}
 use Rattle.simd_json_parts.specs.Views.{first_with, keys}
-use Rattle.simd_json_path.specs.Comparisons.{both, primitive, same_at, same_members, same_primitives, same_to}
+use Rattle.simd_json_path.specs.Comparisons.{same_at, same_members, same_to}
 use Rattle.simd_json_path.specs.Operands.{scalar_value}
 use Rattle.simd_json_path.proofs.Equals.{among-true, members-same, rest-drop, rest-false, rest-more, scalar-first}
 use Rattle.simd_json_path.proofs.same.+same.Goals as goal

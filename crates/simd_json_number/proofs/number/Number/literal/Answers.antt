@@ -1,8 +1,7 @@
-use Rattle.std.proofs.Common.{◌≡◌, ◌∙◌, ap, sym, ℕ, arith}
-use Rattle.std.specs.Fmt.{decimal}
-use Rattle.std.specs.Prelude.{ℤ, pos}
+use Rattle.std.proofs.Common.{◌≡◌, ◌∙◌, ap, sym, arith}
+use Rattle.std.specs.Prelude.{pos}
 use Rattle.simd_json_parts.specs.Integers.{number_of}
-use Rattle.simd_json_number.specs.Magnitudes.{exponent, magnitude, value}
+use Rattle.simd_json_number.specs.Magnitudes.{magnitude, value}
 use Rattle.simd_json_number.specs.Meanings.{number}
 use Rattle.simd_json_number.specs.Numbers.{Decimal, meaning}
 use Rattle.simd_json_number.proofs.Integers.{decimals, magnitude-of, meaning-decimal}
