@@ -13,11 +13,11 @@ use Rattle.simd_json_path.specs.Paths.{followed, selected_by, selected_by_all}
 use Rattle.simd_json_path.specs.Places.{at_index, place}
 use Rattle.simd_json_path.specs.Room.{entered}
 use Rattle.simd_json_path.specs.Slices.{every, by_step, bound_or, bound_after_or, forward, backward, sliced}
-use Rattle.simd_json_path.specs.declared.filter.Step.{Step}
-use Rattle.simd_json_path.specs.declared.filter.Step.TheVariants as step
-use Rattle.simd_json_path.specs.declared.path.Slice.{Slice}
-use Rattle.simd_json_path.specs.declared.path.Selector.{Selector}
-use Rattle.simd_json_path.specs.declared.path.Selector.TheVariants as selector
+use Rattle.simd_json_query.specs.declared.filter.Step.{Step}
+use Rattle.simd_json_query.specs.declared.filter.Step.TheVariants as step
+use Rattle.simd_json_query.specs.declared.query.Slice.{Slice}
+use Rattle.simd_json_query.specs.declared.query.Selector.{Selector}
+use Rattle.simd_json_query.specs.declared.query.Selector.TheVariants as selector
 
 -- how many levels documents in a row have, with their own
 abbrev pub height : List Document → ℕ

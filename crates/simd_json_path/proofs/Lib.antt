@@ -4,3 +4,5 @@ pub mod Heights
 pub mod Rooms
 pub mod Slices
 pub mod Backs
+pub mod Equals
+pub mod Tests

@@ -12,9 +12,9 @@ use Rattle.simd_json.specs.Beneath.{children}
 use Rattle.simd_json_path.specs.Paths.{followed, selected, selected_by, selected_by_all}
 use Rattle.simd_json_path.specs.Room.{are_children, entered, frames_for, is_container, selected_in, selected_within}
 use Rattle.simd_json_path.specs.declared.path.Path.{Path}
-use Rattle.simd_json_path.specs.declared.path.Segment.{Segment}
-use Rattle.simd_json_path.specs.declared.path.Selector.{Selector}
-use Rattle.simd_json_path.specs.declared.path.Selector.TheVariants as selector
+use Rattle.simd_json_query.specs.declared.query.Segment.{Segment}
+use Rattle.simd_json_query.specs.declared.query.Selector.{Selector}
+use Rattle.simd_json_query.specs.declared.query.Selector.TheVariants as selector
 use Rattle.simd_json_path.proofs.Heights.{height, height-followed, height-selected_by_all, height-entered}
 use Rattle.simd_json_path.proofs.Segments.{from_node, from_node-step, nodes-each, flat_map-same}
 

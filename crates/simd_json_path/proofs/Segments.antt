@@ -10,7 +10,7 @@ use Rattle.simd_json.specs.Beneath.{children, descendants, among_elements, among
 use Rattle.simd_json_path.specs.Filters.{at_steps}
 use Rattle.simd_json_path.specs.Paths.{followed, nodes, visited, selected_by_all, selected_of}
 use Rattle.simd_json_path.specs.Room.{entered}
-use Rattle.simd_json_path.specs.declared.path.Segment.{Segment}
+use Rattle.simd_json_query.specs.declared.query.Segment.{Segment}
 
 -- what segments select of a node
 abbrev pub from_node : Document → List Segment → Document → List Document

@@ -5,7 +5,7 @@ use Rattle.std.proofs.lemmas.Bool.{cases_lt}
 use Rattle.std.proofs.lemmas.List.{drop_all, drop-take, length-take}
 use Rattle.simd_json_parts.specs.Document.{Document}
 use Rattle.simd_json_path.specs.Slices.{every, bound_or, forward}
-use Rattle.simd_json_path.specs.declared.path.Slice.{Slice}
+use Rattle.simd_json_query.specs.declared.query.Slice.{Slice}
 
 every-skip : {A : Type 0} (gap skip : ℕ) (xs : List A) → every gap skip xs ≡ every gap 0 (drop skip xs)
 every-skip gap zero [] = refl

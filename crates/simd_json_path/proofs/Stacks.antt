@@ -10,7 +10,7 @@ use Rattle.simd_json_parts.specs.Document.{Document}
 use Rattle.simd_json_path.specs.Frames.{frame_left, frame_effort, frames_left, frames_effort}
 use Rattle.simd_json_path.specs.Room.{effort, is_container, selected_in}
 use Rattle.simd_json_path.specs.declared.frame.Frame.{Frame}
-use Rattle.simd_json_path.specs.declared.path.Segment.{Segment}
+use Rattle.simd_json_query.specs.declared.query.Segment.{Segment}
 use Rattle.simd_json_path.proofs.Rooms.{scalar-selected_in}
 
 module _ (root : Document) where

@@ -8,7 +8,7 @@ use Rattle.simd_json_path.specs.Filters.{holds}
 use Rattle.simd_json_path.specs.Paths.{followed, selected_by_all}
 use Rattle.simd_json_path.specs.Room.{selected_in, effort}
 use Rattle.simd_json_path.specs.Sliced.{children_left}
-use Rattle.simd_json_path.specs.declared.filter.Test.{Test}
+use Rattle.simd_json_query.specs.declared.filter.Test.{Test}
 use Rattle.simd_json_path.specs.declared.frame.Frame.{Frame}
 use Rattle.simd_json_path.specs.declared.opened.Opened.{Opened}
 use Rattle.simd_json_path.specs.declared.picked.Picked.{Picked}

@@ -8,11 +8,11 @@ use Rattle.simd_json.specs.Beneath.{children, descendants}
 use Rattle.simd_json_path.specs.Filters.{at_steps, holds}
 use Rattle.simd_json_path.specs.Places.{at_index}
 use Rattle.simd_json_path.specs.Slices.{sliced}
-use Rattle.simd_json_path.specs.declared.filter.Step.{Step}
+use Rattle.simd_json_query.specs.declared.filter.Step.{Step}
 use Rattle.simd_json_path.specs.declared.path.Path.{Path}
-use Rattle.simd_json_path.specs.declared.path.Segment.{Segment}
-use Rattle.simd_json_path.specs.declared.path.Selector.{Selector}
-use Rattle.simd_json_path.specs.declared.path.Selector.TheVariants as selector
+use Rattle.simd_json_query.specs.declared.query.Segment.{Segment}
+use Rattle.simd_json_query.specs.declared.query.Selector.{Selector}
+use Rattle.simd_json_query.specs.declared.query.Selector.TheVariants as selector
 
 -- ---- selectors (section 2.3), in a query that is applied to a root
 

@@ -8,7 +8,7 @@ use Rattle.simd_json_parts.specs.Views.{is_array, is_object}
 use Rattle.simd_json.specs.Beneath.{children}
 use Rattle.simd_json_path.specs.Paths.{followed, selected_by_all}
 use Rattle.simd_json_path.specs.declared.path.Path.{Path}
-use Rattle.simd_json_path.specs.declared.path.Segment.{Segment}
+use Rattle.simd_json_query.specs.declared.query.Segment.{Segment}
 
 -- it may have children
 abbrev pub is_container : Document → Bool

@@ -1,7 +1,7 @@
 -- Which elements a slice selects (RFC 9535, section 2.3.4).
 use Rattle.std.specs.Prelude.{ℕ, zero, suc, ◌-◌, min, ℤ, pos, negsuc, List, [], ◌∷◌, length, drop, take, reverse, Option, Some, None}
 use Rattle.simd_json_parts.specs.Document.{Document, array, elements}
-use Rattle.simd_json_path.specs.declared.path.Slice.{Slice}
+use Rattle.simd_json_query.specs.declared.query.Slice.{Slice}
 
 -- an index as a bound within so many; below zero it counts from the end
 abbrev pub bound : ℤ → ℕ → ℕ

@@ -4,8 +4,8 @@ ghost use Rattle.simd_json.specs.Viewed.{docs};
 ghost use Rattle.simd_json_parts.specs.Document.{elements};
 ghost use Rattle.simd_json_path.specs.Slices.{bound_after, bound_after_or};
 
-use crate::path::Slice;
 use simd_json::tape::{Array, Value};
+use simd_json_query::Slice;
 
 // Of the elements from `floor` up to `end` the last one, and each one a gap before it.
 #[derive(Clone, Copy, Debug)]

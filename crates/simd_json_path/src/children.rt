@@ -4,9 +4,9 @@ ghost use Rattle.simd_json.specs.Viewed.{doc};
 ghost use Rattle.simd_json_path.specs.Places.{at_index};
 
 use crate::back::Back;
-use crate::path::Slice;
 use crate::slice::Every;
 use simd_json::tape::{Value, array, object};
+use simd_json_query::Slice;
 
 // What is left of some children of a value.
 #[derive(Clone, Copy, Debug)]

@@ -4,53 +4,63 @@ ghost use Rattle.simd_json.specs.Viewed.{doc};
 ghost use Rattle.simd_json_path.specs.Filters.{at_step, at_steps, holds, selected_node};
 
 use crate::children::at_index;
+use crate::operand::{compares, operand_of};
 use simd_json::tape::Value;
+use simd_json_query::{SingularQuery, Step, Test};
 
-/// A step from a node to one of its children: a segment of one name or one index.
-#[derive(Clone, Copy, Debug)]
-pub enum Step<'path> {
-    /// To the value of the member with a name; of equal names the first.
-    Name(&'path str),
-    /// To the element at an index; below zero it counts from the end.
-    Index(i64),
-}
-
-/// A query that selects at most one node (section 2.3.5.1).
-#[derive(Clone, Copy, Debug)]
-pub enum SingularQuery<'path> {
-    /// From the node that is tested: `@`.
-    Relative(&'path [Step<'path>]),
-    /// From the value that the whole query is applied to: `$`.
-    Absolute(&'path [Step<'path>]),
-}
-
-/// A test of a node: a logical expression (section 2.3.5.1).
+/// A test of a value by itself: `@` and `$` are both the value.
 #[derive(Clone, Copy)]
-pub enum Test<'path> {
-    /// The query selects a node, whatever its value.
-    Exists(SingularQuery<'path>),
-    /// The test fails.
-    Not(&'path Test<'path>),
-    /// Both pass.
-    And(&'path Test<'path>, &'path Test<'path>),
-    /// One of them passes, or both.
-    Or(&'path Test<'path>, &'path Test<'path>),
+pub struct Filter<'path> {
+    /// The test.
+    pub test: &'path Test<'path>,
 }
 
-// Whether a node passes a test, in a query that is applied to `root`. It recurses over the test.
+impl Filter<'_> {
+    ghost use Rattle.std.specs.Prelude.{◌≡◌};
+    ghost use Rattle.simd_json.specs.Viewed.{doc};
+    ghost use Rattle.simd_json_path.specs.Filters.{holds};
+
+    /// Whether the value passes the test (section 2.3.5.2). It allocates nothing, and recurses no
+    /// deeper than parentheses, `!` and `length` are nested in the test.
+    pub fn holds(&self, value: &Value<'_, '_>) -> bool
+        ensures { result ≡ holds (doc value.now) self.now.test.now (doc value.now) }
+    {
+        holds(self.test, *value, *value)
+    }
+}
+
+// Whether a node passes a test, in a query that is applied to `root`. It recurses over the test,
+// but for the right operands of `&&` and `||`.
 pub(crate) fn holds(test: &Test<'_>, root: Value<'_, '_>, node: Value<'_, '_>) -> bool
     ensures { result ≡ holds (doc root.entry) test.now (doc node.entry) }
 {
-    match test {
-        Test::Exists(query) => selected_node(query, root, node).is_some(),
-        Test::Not(inner) => !holds(inner, root, node),
-        Test::And(left, right) => holds(left, root, node) && holds(right, root, node),
-        Test::Or(left, right) => holds(left, root, node) || holds(right, root, node),
+    let mut last = test;
+    'operands: loop {
+        match last {
+            Test::Exists(query) => return selected_node(query, root, node).is_some(),
+            Test::Compare(left, comparison, right) => {
+                let left = operand_of(left, root, node);
+                return compares(left, *comparison, operand_of(right, root, node));
+            }
+            Test::Not(inner) => return !holds(inner, root, node),
+            Test::And(left, right) => {
+                if !holds(left, root, node) {
+                    return false;
+                }
+                last = right;
+            }
+            Test::Or(left, right) => {
+                if holds(left, root, node) {
+                    return true;
+                }
+                last = right;
+            }
+        }
     }
 }
 
 // The node that a query selects.
-fn selected_node<'tape, 'input>(
+pub(crate) fn selected_node<'tape, 'input>(
     query: &SingularQuery<'_>,
     root: Value<'tape, 'input>,
     node: Value<'tape, 'input>,

@@ -4,9 +4,10 @@ ghost use Rattle.simd_json.specs.Viewed.{doc};
 ghost use Rattle.simd_json_path.specs.Frames.{opened_left};
 ghost use Rattle.simd_json_path.specs.Paths.{followed};
 
-use crate::filter::{Step, follow};
+use crate::filter::follow;
 use crate::opened::Opened;
 use simd_json::tape::Value;
+use simd_json_query::Step;
 
 // The next value to which steps lead.
 pub(crate) fn next_followed<'tape, 'input>(

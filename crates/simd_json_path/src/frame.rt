@@ -2,11 +2,10 @@
 ghost use Rattle.std.specs.Prelude.{◌≡◌, ◌<◌, length};
 
 use crate::children::Children;
-use crate::filter::Step;
 use crate::followed::next_followed;
 use crate::opened::Opened;
-use crate::path::Segment;
 use simd_json::tape::Value;
+use simd_json_query::{Segment, Step};
 
 // A segment that selects nothing.
 static NOTHING: [Segment<'static>; 1] = [Segment {

@@ -8,9 +8,9 @@ ghost use Rattle.simd_json_path.specs.Left.{item_of};
 ghost use Rattle.simd_json_path.specs.Room.{effort, is_container, selected_in};
 
 use crate::frame::Frame;
-use crate::path::Segment;
 use crate::selected::TooFewFrames;
 use simd_json::tape::Value;
+use simd_json_query::Segment;
 
 // The next value of the frame at an index, and the segments that go on from it.
 fn step<'path, 'tape, 'input>(

@@ -1,29 +1,19 @@
 //! JSONPath (RFC 9535): the values that a query selects of a [`Value`](simd_json::tape::Value).
 //!
-//! A [`Path`] is a query: slices of segments, selectors and tests that refer to one another, in
-//! constants, on the stack or in an arena. [`Path::select`] is an iterator over what it selects, in
-//! order, which allocates nothing and does not recurse: it keeps its place in [`Frame`]s that the
-//! caller lends.
+//! A [`Path`] is a query, which [`Path::new`] reads from text into an arena; or slices of segments,
+//! selectors and tests, in constants or on the stack. [`Path::select`] is an iterator over what it
+//! selects, in order, which allocates nothing and does not recurse: it keeps its place in
+//! [`Frame`]s that the caller lends.
 //!
 //! ```
+//! use bumpalo::Bump;
 //! use simd_json::tape::Value;
-//! use simd_json_path::{Frame, Path, Segment, Selector, Step, TooFewFrames};
+//! use simd_json_path::{Frame, Path};
 //!
-//! // The sum of `$.orders[*].items[*].price`, and whether each is an integer.
-//! fn total(value: &Value<'_, '_>) -> Result<Option<u64>, TooFewFrames> {
-//!     let each = Segment {
-//!         selectors: &[Selector::Wildcard],
-//!         is_descendant: false,
-//!         steps: &[Step::Name("items")],
-//!     };
-//!     let price = Segment {
-//!         steps: &[Step::Name("price")],
-//!         ..each
-//!     };
-//!     let path = Path {
-//!         steps: &[Step::Name("orders")],
-//!         segments: &[each, price],
-//!     };
+//! // The sum of the prices of all orders, or what failed.
+//! fn total(rt: &impl AllocGlobal, value: &Value<'_, '_>) -> anyhow::Result<Option<u64>> {
+//!     let arena = Bump::new(rt.alloc());
+//!     let path = Path::new(&arena, "$.orders[*].items[*].price")?;
 //!     let mut frames = [Frame::closed(); 2];
 //!     let mut sum = Some(0u64);
 //!     for price in path.select(value, &mut frames) {
@@ -39,12 +29,22 @@
 //! | RFC 9535 | here |
 //! |---|---|
 //! | name, wildcard, index, slice selectors (2.3.1 to 2.3.4) | [`Selector`] |
-//! | filter selectors (2.3.5): existence of a singular query, `!`, `&&`, `\|\|` | [`Test`] |
+//! | filter selectors (2.3.5): existence and comparisons of singular queries, `!`, `&&`, `\|\|` | [`Test`] |
+//! | `length`, `count` and `value` (2.4) of singular queries | [`Comparable`] |
+//! | a filter by itself, of one value | [`Filter`] |
 //! | child and descendant segments (2.5) | [`Segment`] |
-//! | a query's text, comparisons, functions, normalized paths (2.7) | not yet |
+//! | a query's text, but filters in it | [`Path::new`] |
+//! | filters in a query's text, `match`, `search`, normalized paths (2.7) | not yet |
 //!
 //! The RFC leaves the order of an object's members open: here it is the text's. Of equal names a
 //! name selects the first; wildcards and descendant segments visit all.
+//!
+//! Numbers are compared by their values, exactly, by
+//! [`simd_json_number`](simd_json_number::Number); strings by their characters; arrays and objects
+//! by what is in them, objects without order and of equal names by the first value. The comparison
+//! recurses to at most 128 levels of arrays and objects; what is nested deeper is equal where it is
+//! written in the same order with the same literals. Its time grows with the square of the number
+//! of an object's members.
 //!
 //! # Frames
 //!
@@ -68,12 +68,19 @@ mod frame;
 mod frames;
 pub mod laws;
 mod opened;
+mod operand;
 mod path;
 mod picked;
+mod same;
+mod scalar;
 mod selected;
 mod slice;
 
-pub use filter::{SingularQuery, Step, Test};
+pub use filter::Filter;
 pub use frame::Frame;
-pub use path::{Path, Segment, Selector, Slice};
+pub use path::Path;
 pub use selected::{Selected, TooFewFrames};
+pub use simd_json_query::{
+    Comparable, Comparison, Literal, PathError, PathExpected, Segment, Selector, SingularQuery,
+    Slice, Step, Test,
+};

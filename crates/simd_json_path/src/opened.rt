@@ -1,8 +1,8 @@
 //! What the selectors of a segment select of one value.
 use crate::children::Children;
-use crate::path::Selector;
 use crate::picked::Picked;
 use simd_json::tape::Value;
+use simd_json_query::Selector;
 
 // What is left of what selectors select of one value.
 #[derive(Clone, Copy)]

@@ -1,8 +1,8 @@
 //! What one selector selects of one value.
 use crate::children::{Children, at_index};
-use crate::filter::{Test, holds};
-use crate::path::Selector;
+use crate::filter::holds;
 use simd_json::tape::Value;
+use simd_json_query::{Selector, Test};
 
 // What is left of what a selector selects: those of the children that pass the test, if any.
 #[derive(Clone, Copy)]

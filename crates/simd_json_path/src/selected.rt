@@ -3,8 +3,8 @@ ghost use Rattle.std.specs.Prelude.{◌≡◌, ◌≤◌, length};
 
 use crate::frame::Frame;
 use crate::frames::{advance, is_container};
-use crate::path::Segment;
 use simd_json::tape::Value;
+use simd_json_query::Segment;
 use std::fmt;
 
 /// No frame was left for an array or an object: what a query selects beneath it is left out.

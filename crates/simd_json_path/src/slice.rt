@@ -3,8 +3,8 @@ ghost use Rattle.std.specs.Prelude.{◌≡◌, drop, length};
 ghost use Rattle.simd_json.specs.Iterated.{elements_left};
 ghost use Rattle.simd_json_path.specs.Slices.{bound, bound_or};
 
-use crate::path::Slice;
 use simd_json::tape::{Array, Value, array};
+use simd_json_query::Slice;
 
 // Of the next `span` elements the first, and each one after a gap.
 #[derive(Clone, Copy, Debug)]

@@ -3,11 +3,13 @@ use simd_json_path::{Frame, Path, Segment, Selector, TooFewFrames};
 use std::process::Abort;
 use std::test::Fail;
 
+mod comparisons;
 mod examples;
 mod filters;
 mod frames;
 mod segments;
 mod selectors;
+mod texts;
 
 type Tested = std::result::Result<(), Fail>;
 

@@ -6,6 +6,7 @@
 mod bytes;
 mod doors;
 mod listing;
+mod paths;
 mod pointers;
 mod printing;
 mod rows;

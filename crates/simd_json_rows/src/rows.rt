@@ -1,5 +1,6 @@
 //! A row, and its question.
 use crate::bytes::{decoded, encoded};
+use crate::paths::selected;
 use crate::pointers::pointed;
 use crate::{doors, printing};
 use anyhow::{Result, bail};
@@ -7,7 +8,7 @@ use simd_json::{Buffers, DEFAULT_MAX_DEPTH};
 use std::alloc::Global;
 
 /// What lasts from row to row: buffers, as long as rows have their limit, and the document that
-/// pointers look into.
+/// pointers and queries look into.
 #[derive(Drop)]
 pub struct Rows {
     alloc: Global,
@@ -67,6 +68,10 @@ impl Rows {
             "pointer" => {
                 let pointer = std::str::from_utf8(input)?;
                 pointed(self.alloc, self.document.as_slice(), pointer)
+            }
+            "path" => {
+                let query = std::str::from_utf8(input)?;
+                selected(self.alloc, self.document.as_slice(), query)
             }
             _ => bail!("a row asks for {asked}"),
         }

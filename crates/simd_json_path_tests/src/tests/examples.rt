@@ -3,24 +3,17 @@ use crate::tests::Tested;
 use simd_json::to_tape;
 
 mod page {
+    use bumpalo::Bump;
     use simd_json::tape::Value;
-    use simd_json_path::{Frame, Path, Segment, Selector, Step, TooFewFrames};
+    use simd_json_path::{Frame, Path};
 
-    // The sum of `$.orders[*].items[*].price`, and whether each is an integer.
-    pub(super) fn total(value: &Value<'_, '_>) -> Result<Option<u64>, TooFewFrames> {
-        let each = Segment {
-            selectors: &[Selector::Wildcard],
-            is_descendant: false,
-            steps: &[Step::Name("items")],
-        };
-        let price = Segment {
-            steps: &[Step::Name("price")],
-            ..each
-        };
-        let path = Path {
-            steps: &[Step::Name("orders")],
-            segments: &[each, price],
-        };
+    // The sum of the prices of all orders, or what failed.
+    pub(super) fn total(
+        rt: &impl AllocGlobal,
+        value: &Value<'_, '_>,
+    ) -> anyhow::Result<Option<u64>> {
+        let arena = Bump::new(rt.alloc());
+        let path = Path::new(&arena, "$.orders[*].items[*].price")?;
         let mut frames = [Frame::closed(); 2];
         let mut sum = Some(0u64);
         for price in path.select(value, &mut frames) {
@@ -62,7 +55,8 @@ fn examples_return_what_they_say(rt: HostRuntime) -> Tested {
         *b"{\"orders\":[{\"items\":[{\"price\":5},{\"price\":7}]},{\"items\":[{\"price\":1}]}]}";
     let tape = to_tape(rt.alloc(), &mut input)?;
     assert!(rt; !tape.is_empty());
-    assert_eq!(rt; page::total(&tape.as_value())?, Some(13));
+    let total = page::total(&rt, &tape.as_value()).expect(&rt, "a sum");
+    assert_eq!(rt; total, Some(13));
     assert_eq!(rt; reading::prices(&tape.as_value())?, 3);
     Ok(())
 }

@@ -1,0 +1,4 @@
+pub mod Clamps
+pub mod DigitLists
+pub mod Orders
+pub mod Integers

@@ -1,0 +1,82 @@
+//! Filters (RFC 9535, section 2.3.5): tests of a node.
+/// A step from a node to one of its children: a segment of one name or one index.
+#[derive(Clone, Copy, Debug)]
+pub enum Step<'path> {
+    /// To the value of the member with a name; of equal names the first.
+    Name(&'path str),
+    /// To the element at an index; below zero it counts from the end.
+    Index(i64),
+}
+
+/// A query that selects at most one node (section 2.3.5.1).
+#[derive(Clone, Copy, Debug)]
+pub enum SingularQuery<'path> {
+    /// From the node that is tested: `@`.
+    Relative(&'path [Step<'path>]),
+    /// From the value that the whole query is applied to: `$`.
+    Absolute(&'path [Step<'path>]),
+}
+
+/// A value that a filter spells (section 2.3.5.1).
+#[derive(Clone, Copy, Debug)]
+pub enum Literal<'path> {
+    /// `null`, a value like others.
+    Null,
+    /// `true` or `false`.
+    Bool(bool),
+    /// A number: its text, as JSON spells it, or `-0`.
+    Number(&'path str),
+    /// The characters of a string.
+    String(&'path str),
+}
+
+/// What a comparison compares (section 2.3.5.1): a value, or nothing.
+#[derive(Clone, Copy)]
+pub enum Comparable<'path> {
+    /// A value that the filter spells.
+    Literal(Literal<'path>),
+    /// The value of the node that a query selects; nothing where it selects none.
+    Query(SingularQuery<'path>),
+    /// `length` (section 2.4.4): the number of a string's characters, of an array's elements or of
+    /// an object's members; nothing of other values, and of nothing.
+    Length(&'path Comparable<'path>),
+    /// `count` (section 2.4.5): how many nodes a query selects.
+    Count(SingularQuery<'path>),
+    /// `value` (section 2.4.8): the value of the only node that a query selects; else nothing.
+    Value(SingularQuery<'path>),
+}
+
+/// How two values are compared (section 2.3.5.2.2).
+#[derive(Clone, Copy, Debug, PartialEq, Eq)]
+pub enum Comparison {
+    /// `==`.
+    Equal,
+    /// `!=`.
+    NotEqual,
+    /// `<`.
+    Less,
+    /// `<=`.
+    LessOrEqual,
+    /// `>`.
+    Greater,
+    /// `>=`.
+    GreaterOrEqual,
+}
+
+/// A test of a node: a logical expression (section 2.3.5.1).
+///
+/// Of `a && b && c` the right operand is `b && c`, and so with `||`: what evaluates a test can go
+/// on with a right operand in a loop, and recurses no deeper than parentheses are nested.
+#[derive(Clone, Copy)]
+pub enum Test<'path> {
+    /// The query selects a node, whatever its value.
+    Exists(SingularQuery<'path>),
+    /// A comparison of two values.
+    Compare(Comparable<'path>, Comparison, Comparable<'path>),
+    /// The test fails.
+    Not(&'path Test<'path>),
+    /// Both pass.
+    And(&'path Test<'path>, &'path Test<'path>),
+    /// One of them passes, or both.
+    Or(&'path Test<'path>, &'path Test<'path>),
+}

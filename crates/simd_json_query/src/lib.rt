@@ -1,0 +1,10 @@
+//! A query of JSONPath (RFC 9535): its parts, and its text.
+#![tactic(auto)]
+
+mod filter;
+mod query;
+mod text;
+
+pub use filter::{Comparable, Comparison, Literal, SingularQuery, Step, Test};
+pub use query::{Segment, Selector, Slice};
+pub use text::{PathError, PathExpected, QueryParts, read};

@@ -1,0 +1,108 @@
+//! The text of a query (RFC 9535, sections 2.1 to 2.5).
+ghost use Rattle.std.specs.Prelude.{◌≤◌, length, IfErr, IfOk};
+ghost use Rattle.simd_json_query.specs.Queries.{Query};
+
+use crate::filter::Step;
+use crate::query::Segment;
+use bumpalo::Bump;
+use std::alloc::Allocator;
+use std::fmt;
+
+mod cursor;
+mod integers;
+mod names;
+mod segments;
+mod selectors;
+mod steps;
+mod strings;
+
+use cursor::Stop;
+
+/// What a query's text lacks.
+#[derive(Clone, Copy, Debug, Drop, PartialEq, Eq)]
+pub enum PathExpected {
+    /// `$`, with which each query begins.
+    Root,
+    /// `.` or `[`, with which a segment begins, or the end.
+    Segment,
+    /// A name without quotes, or `*`, after a `.`.
+    Member,
+    /// A name without quotes, `*` or `[`, after `..`.
+    Descendants,
+    /// A selector: a name in quotes, `*`, an index or a slice. Filters are not read yet.
+    Selector,
+    /// `,` or `]` after a selector.
+    Separator,
+    /// A digit from 1 to 9, after a `-`.
+    Digit,
+    /// An integer between -(2^53 - 1) and 2^53 - 1.
+    SmallerInteger,
+    /// A character that may be in a string, or the quote at its end.
+    Character,
+    /// An escape that a string of these quotes may have, of a character.
+    Escape,
+    /// Memory: an allocation failed.
+    Memory,
+}
+
+impl fmt::Display for PathExpected {
+    fn fmt<W: fmt::Write>(&self, f: &mut fmt::Formatter<W>) -> fmt::Result {
+        f.write_str(match self {
+            PathExpected::Root => "$",
+            PathExpected::Segment => ". or [ or the end",
+            PathExpected::Member => "a name or *",
+            PathExpected::Descendants => "a name, * or [",
+            PathExpected::Selector => "a selector",
+            PathExpected::Separator => ", or ]",
+            PathExpected::Digit => "a digit from 1 to 9",
+            PathExpected::SmallerInteger => "an integer of at most 2^53 - 1",
+            PathExpected::Character => "a character or the closing quote",
+            PathExpected::Escape => "an escape",
+            PathExpected::Memory => "more memory",
+        })
+    }
+}
+
+/// Where a text is no query, and what it lacks there.
+///
+/// It prints in words, as `expected a selector at byte 4`.
+#[derive(Clone, Copy, Debug, Drop, PartialEq, Eq)]
+pub struct PathError {
+    /// The index of a byte of the text, or its length.
+    pub index: usize,
+    /// What the text lacks there.
+    pub expected: PathExpected,
+}
+
+impl fmt::Display for PathError {
+    fn fmt<W: fmt::Write>(&self, f: &mut fmt::Formatter<W>) -> fmt::Result {
+        let expected = self.expected;
+        let index = self.index;
+        write!(f, "expected {expected} at byte {index}")
+    }
+}
+
+impl std::error::Error for PathError {}
+
+/// The parts of a query: the steps with which it begins, and its segments.
+pub type QueryParts<'path> = (&'path [Step<'path>], &'path [Segment<'path>]);
+
+/// The query of a text, in an arena.
+///
+/// Returns where the text is no query, and what it lacks there, or `Memory` where an allocation
+/// fails. Filter selectors are not read yet.
+pub fn read<'path, A: Allocator>(
+    arena: &'path Bump<A>,
+    text: &str,
+) -> Result<QueryParts<'path>, PathError>
+    ensures query { IfOk result (λ r. Query r.0.now r.1.now text.now) }
+    ensures index { IfErr result (λ e. e.index ≤ length text.now) }
+{
+    match segments::query(arena, text) {
+        Ok(parts) => Ok(parts),
+        Err(stop) => Err(PathError {
+            index: text.len().saturating_sub(stop.left),
+            expected: stop.expected,
+        }),
+    }
+}
