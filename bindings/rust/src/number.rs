@@ -1,5 +1,7 @@
 //! The float nearest to the literal of a number. One division or one multiplication finds most, and `core` the others.
 
+use std::str;
+
 // How many digits may be behind the point.
 const MOST: usize = 16;
 
@@ -29,9 +31,9 @@ const INVERSES: [(u64, u32); MOST + 1] = inverses();
 
 /// The float nearest to a number as a document writes it; infinite where it is past the greatest.
 #[inline]
-pub(crate) fn nearest(literal: &str) -> f64 {
-    let digits = literal.strip_prefix('-').unwrap_or(literal);
-    match fixed_point(digits.as_bytes()).and_then(|(digits, k)| quotient(digits, k)) {
+pub(crate) fn nearest(literal: &[u8]) -> f64 {
+    let digits = literal.strip_prefix(b"-").unwrap_or(literal);
+    match fixed_point(digits).and_then(|(digits, k)| quotient(digits, k)) {
         Some(number) if digits.len() < literal.len() => -number,
         Some(number) => number,
         None => by_core(literal),
@@ -40,8 +42,9 @@ pub(crate) fn nearest(literal: &str) -> f64 {
 
 #[cold]
 #[inline(never)]
-fn by_core(literal: &str) -> f64 {
-    literal.parse().unwrap_or_default()
+fn by_core(literal: &[u8]) -> f64 {
+    let number = str::from_utf8(literal).ok().and_then(|literal| literal.parse().ok());
+    number.unwrap_or_default()
 }
 
 // `n` / 10^`k`, `k` not 0, rounded once; or `None`.

@@ -182,7 +182,7 @@ impl<'tape> Value<'tape> {
         match self.value_type() {
             ValueType::I64 => Some(self.node().value as i64 as f64),
             ValueType::U64 => Some(self.node().value as f64),
-            ValueType::I128 | ValueType::U128 | ValueType::Decimal => Some(nearest(self.literal())),
+            ValueType::I128 | ValueType::U128 | ValueType::Decimal => Some(nearest(self.literal().as_bytes())),
             _ => None,
         }
     }
