@@ -123,6 +123,8 @@ static void add_typed(std::vector<Contender> &all, const std::string &form, cons
     if (name == "serde_json") {
         add("serde_json_typed_owned", "serde_json owned");
         add("serde_json_typed_borrowed", "serde_json borrowed");
+        add("crate_typed_owned", "crate owned");
+        add("crate_typed_borrowed", "crate borrowed");
     } else {
         std::string level = ", " + name.substr(strlen("typed-"));
         add("simd_json_typed_serde_json", "toolchain owned" + level);

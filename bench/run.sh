@@ -79,14 +79,15 @@ REGISTRY=/usr/share/cargo/registry
 serde=
 stream=
 if command -v cargo > /dev/null && ls -d $REGISTRY/serde_json-* $REGISTRY/serde_derive-* > /dev/null 2>&1; then
-    mkdir -p "$OUT/serde_json"
-    cp bench/serde_json/Cargo.toml bench/serde_json/*.rs "$OUT/serde_json/"
-    (cd "$OUT/serde_json" && RUSTFLAGS='-C target-cpu=native' cargo build --release --offline -q \
+    mkdir -p "$OUT/rust"
+    cp bench/rust/Cargo.toml bench/rust/*.rs "$OUT/rust/"
+    ln -sfn ../bindings build/bindings
+    (cd "$OUT/rust" && SIMD_JSON_LIB_DIR="$OUT/c-$level" RUSTFLAGS='-C target-cpu=native' cargo build --release --offline -q \
         --config 'source.crates-io.replace-with="system"' --config "source.system.directory=\"$REGISTRY\"")
-    serde=serde_json=$OUT/serde_json/target/release/libserde_json_entry.so
+    serde=serde_json=$OUT/rust/target/release/librust_entries.so
     stream=stream=${serde#serde_json=}
 else
-    say "left out: serde_json, which is not installed, or its derives are not"
+    say "left out: Rust's serde_json and the crate for Rust, for want of serde_json or its derives"
 fi
 
 python3 bench/texts.py "$OUT/texts" "$@"

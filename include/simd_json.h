@@ -150,13 +150,18 @@ static inline size_t simd_json_next(const simd_json_node *nodes, size_t i) {
  * *place. */
 int32_t simd_json_check(const void *input, size_t len, size_t max_depth, simd_json_place *place);
 
-/* The index of the node that a JSON Pointer (RFC 6901) names beneath the value at index `from`, or SIMD_JSON_NO_NODE: the pointer
- * is malformed, or leads nowhere. The empty pointer names the value itself. Each `/` of another begins a reference token: the key
- * of a pair of an object, of equal keys the first, with `~1` for `/` and `~0` for `~`; or the index of an element of an array, in
- * digits without a leading zero.
+/* The index of the value of the first pair with a key, in the object at index `object`; SIMD_JSON_NO_NODE where there is none, or
+ * that node is no object. The key is its bytes: of `{"a/b":1}` it is `a/b`.
  *
  * Of other nodes than those of a document the result is not said, but it is below nodes_len or SIMD_JSON_NO_NODE. */
 #define SIMD_JSON_NO_NODE SIZE_MAX
+size_t simd_json_key(const simd_json_node *nodes, size_t nodes_len, const void *text, size_t text_len, size_t object,
+                     const void *key, size_t key_len);
+
+/* The index of the node that a JSON Pointer (RFC 6901) names beneath the value at index `from`, or SIMD_JSON_NO_NODE: the pointer
+ * is malformed, or leads nowhere. The empty pointer names the value itself. Each `/` of another begins a reference token: the key
+ * of a pair of an object, of equal keys the first, with `~1` for `/` and `~0` for `~`; or the index of an element of an array, in
+ * digits without a leading zero. Of other nodes than those of a document, as simd_json_key. */
 size_t simd_json_pointer(const simd_json_node *nodes, size_t nodes_len, const void *text, size_t text_len, size_t from,
                          const void *pointer, size_t pointer_len);
 

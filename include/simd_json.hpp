@@ -171,7 +171,7 @@ public:
     /* The value of the first member of an object with a key, or the element of an array with an
      * index, of any integral type but bool; nothing, or for [] std::out_of_range, where there is
      * none. */
-    std::optional<element> find(std::string_view key) const;
+    std::optional<element> find(std::string_view key) const { return named(simd_json_key, key); }
     std::optional<element> find(size_t index) const;
     element operator[](std::string_view key) const {
         const std::optional<element> value = find(key);
@@ -186,9 +186,7 @@ public:
 
     /* The value that a JSON Pointer (RFC 6901) names beneath this one, as "/sizes/0". */
     std::optional<element> pointer(std::string_view pointer) const {
-        const size_t at = simd_json_pointer(&node(), simd_json_next(node_, 0), document_->text,
-                                            document_->text_len, 0, pointer.data(), pointer.size());
-        return at == SIMD_JSON_NO_NODE ? std::nullopt : std::optional(ahead(at));
+        return named(simd_json_pointer, pointer);
     }
 
 private:
@@ -228,6 +226,11 @@ private:
         return {document_->text + (holds_text() ? node_->value : 0), holds_text() ? node_->len : 0};
     }
     bool holds_text() const { return kind() >= SIMD_JSON_I128 && kind() <= SIMD_JSON_STRING; }
+    std::optional<element> named(decltype(simd_json_key) call, std::string_view name) const {
+        const size_t at = call(&node(), simd_json_next(node_, 0), document_->text,
+                               document_->text_len, 0, name.data(), name.size());
+        return at == SIMD_JSON_NO_NODE ? std::nullopt : std::optional(ahead(at));
+    }
     element after() const { return ahead(simd_json_next(&node(), 0)); }
     element beneath() const { return ahead(1); }
     template <class T> std::optional<T> if_kind(uint32_t kind, T value) const {
@@ -299,13 +302,6 @@ private:
 
 inline array_view element::array() const { return array_view(*this); }
 inline object_view element::object() const { return object_view(*this); }
-
-inline std::optional<element> element::find(std::string_view key) const {
-    for (const auto &[name, value] : object())
-        if (name == key)
-            return value;
-    return std::nullopt;
-}
 
 inline std::optional<element> element::find(size_t index) const {
     for (element value : array())

@@ -1,8 +1,8 @@
 #!/bin/sh
 # Runs what README.md and docs/LINES.md show after `$ ` with the programs that the gate has built, and compares what is printed with
 # what those pages say; runs the rows of CONTRIBUTING.md, whose other commands prove, and must be there; looks for the code of
-# README.md and docs/READING.md in tests and programs; and asks what bash completes. Silent where all is well, else status 1. The
-# other commands are those of `make test`, install.sh, jq.sh and engines.sh.
+# README.md and docs/READING.md in tests and programs; follows links; and asks what bash completes. Silent where all is well, else
+# status 1. The other commands are those of `make test`, install.sh, jq.sh and engines.sh.
 set -u
 top=$(cd "$(dirname "$0")/.." && pwd)
 room=$(mktemp -d) || exit 1
@@ -54,6 +54,7 @@ grep -oE '(^|`)(rt|make|sh) [a-z][a-z/_.-]*|`crates/simd_json[a-z_/]*[.]rt' "$ro
         esac || echo "is not there: $program $name"
     done > "$room/absent"
 [ ! -s "$room/absent" ] || { cat "$room/absent"; different=1; }
+(cd "$top" && sh tests/links.sh ./*.md docs/*.md bench/HISTORY.md examples/README.md bindings/rust/README.md python/README.md) || different=1
 
 # A paragraph of code is one line, without comments and imports. The program of the README's installation is run by install.sh.
 lines() { sed 's/^ *//; /^\/\//d; /^use /d; s/pub(super) //g; s/^pub fn /fn /' | awk -v RS= '{ gsub(/\n/, " "); print }'; }

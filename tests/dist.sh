@@ -1,6 +1,6 @@
 #!/bin/sh
-# Unpacks the release that `make dist` writes into an empty folder. There, without the toolchain on the PATH: checksums, what it
-# needs of the C library, manual pages, programs in C, C++, Python and Rust over it, and library and programs at both levels of
+# Unpacks the release that `make dist` writes into an empty folder. There, without the toolchain on the PATH: checksums, links,
+# what it needs of the C library, manual pages, programs in C, C++, Python and Rust over it, and library and programs at both levels of
 # the processor. Silent where all is well but for a line of what was left out; else it says what differs, and ends with status 1.
 set -eu
 top=$(cd "$(dirname "$0")/.." && pwd)
@@ -49,6 +49,7 @@ PATH=$path
 ! command -v rt > /dev/null || wrong "the toolchain is still on the PATH"
 
 (cd "$at" && run sha256sum -c SHA256SUMS)
+(cd "$at" && run sh "$top/tests/links.sh" README.md rust/README.md)
 [ "$(wc -l < "$at/SHA256SUMS")" = "$(find "$at" -type f ! -name SHA256SUMS | wc -l)" ] || wrong "SHA256SUMS lacks files"
 
 # Nothing needs a glibc after 2.31, or another library.

@@ -248,6 +248,39 @@ static void equals_told_apart(void) {
     simd_json_close(&parser);
 }
 
+// Keys without escapes, of equal ones the first; by hand.
+static void keys_found(void) {
+    static const char document[] = "{\"a/b\":[{\"a\":0}],\"a~1b\":2,\"~\":3,\"\":4,\"a\":5,\"a\":6,\"\\u00e9\\u0000\":7}";
+    static const struct {
+        const char *key;
+        size_t len, object, at;
+    } rows[] = {{"a/b", 3, 0, 2},
+                {"a~1b", 4, 0, 7},
+                {"~", 1, 0, 9},
+                {"~0", 2, 0, SIMD_JSON_NO_NODE},
+                {0, 0, 0, 11},
+                {"a", 1, 0, 13},
+                {"\303\251\0", 3, 0, 17},
+                {"\303\251", 2, 0, SIMD_JSON_NO_NODE},
+                {"a", 1, 3, 5},
+                {"0", 1, 2, SIMD_JSON_NO_NODE},
+                {"a", 1, 2, SIMD_JSON_NO_NODE},
+                {"a", 1, 12, SIMD_JSON_NO_NODE},
+                {"a", 1, 18, SIMD_JSON_NO_NODE},
+                {"a", 1, SIZE_MAX, SIMD_JSON_NO_NODE}};
+    char copy[sizeof document];
+    simd_json_document lent;
+    simd_json_place place;
+    simd_json_parser parser = {0};
+    WANT(simd_json_open(&parser, 4) == SIMD_JSON_OK, "opened");
+    WANT(simd_json_parser_parse(&parser, copy, fresh(copy, document), &lent, &place) == SIMD_JSON_OK && lent.nodes_len == 18, document);
+    for (size_t i = 0; i < sizeof rows / sizeof *rows; i++) {
+        size_t at = simd_json_key(lent.nodes, lent.nodes_len, lent.text, lent.text_len, rows[i].object, rows[i].key, rows[i].len);
+        WANT(at == rows[i].at, rows[i].key);
+    }
+    simd_json_close(&parser);
+}
+
 // The longest reason has 54 bytes: each status, with each byte where an error is, alone and behind others.
 static void reasons_fit(void) {
     static const char *const before[] = {"", "[", "[1", "{", "{\"a\"", "{\"a\":1", "{\"a\":1,", "\"\\", "[12", "\"\\u"};
@@ -445,6 +478,7 @@ int main(void) {
     version();
     siblings();
     equals_told_apart();
+    keys_found();
     reasons_fit();
     opened_within_each_limit();
     doubles();

@@ -184,6 +184,9 @@ static void pointers(void) {
             size_t found = simd_json_pointer(nodes.at, a, text_part.at, b, 0, path.at, 4);
             if (a == NODES && b == TEXT) WANT(found == 13);
             WANT(found == SIMD_JSON_NO_NODE || found < a);
+            found = simd_json_key(nodes.at, a, text_part.at, b, 0, (char *)path.at + 1, 1);
+            if (a == NODES && b == TEXT) WANT(found == 9);
+            WANT(found == SIMD_JSON_NO_NODE || found < a);
             give_back(nodes, a * sizeof *all);
             give_back(text_part, b);
             give_back(path, 4);
@@ -210,6 +213,8 @@ static void pointers(void) {
         static const char *const paths[] = {"", "/0", "/a", "/0/0", "/aa/1", "/", "/a/a/a", "/18446744073709551615"};
         const char *path = paths[(random >> 40) % 8];
         size_t found = simd_json_pointer(nodes.at, 5, text_part.at, 3, (random >> 50) % 6, path, strlen(path));
+        WANT(found == SIMD_JSON_NO_NODE || found < 5);
+        found = simd_json_key(nodes.at, 5, text_part.at, 3, (random >> 50) % 6, path, strlen(path));
         WANT(found == SIMD_JSON_NO_NODE || found < 5);
         munmap(nodes.page, 2 * PAGE);
         munmap(text_part.page, 2 * PAGE);

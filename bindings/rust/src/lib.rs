@@ -5,6 +5,7 @@ mod compare;
 mod de;
 mod error;
 mod ffi;
+mod number;
 mod print;
 #[cfg(feature = "serde")]
 mod ser;

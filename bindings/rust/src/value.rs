@@ -1,5 +1,6 @@
 //! Values of a tape. A node of a container is followed by the nodes of its members; its `value` is how many they are.
 use crate::ffi::{pointed, Buffers, Document, Node};
+use crate::number::nearest;
 use std::fmt;
 use std::iter::FusedIterator;
 use std::marker::PhantomData;
@@ -181,7 +182,7 @@ impl<'tape> Value<'tape> {
         match self.value_type() {
             ValueType::I64 => Some(self.node().value as i64 as f64),
             ValueType::U64 => Some(self.node().value as f64),
-            ValueType::I128 | ValueType::U128 | ValueType::Decimal => self.literal().parse().ok(),
+            ValueType::I128 | ValueType::U128 | ValueType::Decimal => Some(nearest(self.literal().as_bytes())),
             _ => None,
         }
     }

@@ -222,16 +222,38 @@ fn depth_ends_no_program() {
 // xorshift (G. Marsaglia, "Xorshift RNGs", 2003).
 struct Random(u64);
 
+const SEED: u64 = 0x9e37_79b9_7f4a_7c15;
+
 impl Random {
-    fn below(&mut self, n: usize) -> usize {
+    fn next(&mut self) -> u64 {
         self.0 ^= self.0 << 13;
         self.0 ^= self.0 >> 7;
         self.0 ^= self.0 << 17;
-        (self.0 % n as u64) as usize
+        self.0
+    }
+
+    fn below(&mut self, n: usize) -> usize {
+        (self.next() % n as u64) as usize
     }
 
     fn one_of<'a, T>(&mut self, of: &'a [T]) -> &'a T {
         &of[self.below(of.len())]
+    }
+}
+
+fn count() -> usize {
+    std::env::var("MUTANTS").map_or(100_000, |count| count.parse().unwrap())
+}
+
+// A number with up to 9 digits before the point and 20 behind it, sometimes with an exponent, or as a float is printed.
+fn decimal(random: &mut Random) -> String {
+    let whole = random.next() % 10u64.pow(random.below(10) as u32);
+    let fraction: String = (0..=random.below(20)).map(|_| char::from(b'0' + random.below(10) as u8)).collect();
+    let sign = random.one_of(&["", "-"]);
+    match random.below(8) {
+        0 => format!("{sign}{whole}.{fraction}e{}", random.below(600) as i32 - 300),
+        1 => format!("{sign}{:?}", whole as f64 / (1 + random.below(1_000_000)) as f64),
+        _ => format!("{sign}{whole}.{fraction}"),
     }
 }
 
@@ -283,6 +305,22 @@ fn judge<T: DeserializeOwned + PartialEq + Debug>(text: &[u8], read: &mut [usize
 }
 
 #[test]
+fn decimals_are_those_of_core() {
+    let mut random = Random(SEED);
+    let literals: Vec<String> = (0..count()).map(|_| decimal(&mut random)).collect();
+    let text = format!("[{}]", literals.join(","));
+    let wanted: Vec<u64> = literals.iter().map(|literal| literal.parse::<f64>().unwrap().to_bits()).collect();
+    let tape = to_owned_tape(text.clone()).unwrap();
+    let values: Vec<f64> = tape.as_value().as_array().unwrap().filter_map(|value| value.as_f64()).collect();
+    for found in [values, read(&text)] {
+        assert_eq!(found.len(), wanted.len());
+        for (at, literal) in literals.iter().enumerate() {
+            assert_eq!(found[at].to_bits(), wanted[at], "{literal}");
+        }
+    }
+}
+
+#[test]
 fn mutants_are_read_as_by_serde_json() {
     const STRICT: &[u8] = br#"{"x":[{"y":"\u00e9\n"}],"id":12,"sizes":[-12,1.25],"a/b":{"k":[655,0],"l":[]}}"#;
     const FLAT: &[u8] = br#"{"kind":"k","id":3,"more":{"c":[1,-1,0.5,"\n"]},"sizes":[1,null],"a":null}"#;
@@ -292,8 +330,7 @@ fn mutants_are_read_as_by_serde_json() {
     const TREE: &[u8] = br#"{"v":1,"next":{"v":-300,"next":null},"more":[{"v":2,"more":[]},{"v":3,"next":{"v":4}}]}"#;
     const PAIRS: &[u8] = br#"[null,[[1,"b"],[2,"\\"],[255,""]]]"#;
     const DENYING: &[u8] = br#"[{"id":1,"name":null},{"name":"\"","id":200}]"#;
-    let mutants: usize = std::env::var("MUTANTS").map_or(100_000, |count| count.parse().unwrap());
-    let (mut random, mut read) = (Random(0x9e37_79b9_7f4a_7c15), [0; 2]);
+    let (mutants, mut random, mut read) = (count(), Random(SEED), [0; 2]);
     for number in 0..mutants {
         match number % 8 {
             0 => judge::<Strict>(&mutant(&mut random, STRICT), &mut read),

@@ -15,17 +15,19 @@ use Rattle.std.specs.Str.{IsAscii, IsUtf8}
 use Rattle.std.specs.Result.{result_ok}
 use Rattle.simd_json_parts.specs.Document.{Document, null, boolean, integer, decimal, string, array, object, Elements}
 use Rattle.simd_json_parts.specs.Document.{no_elements, element, elements, Members, no_members, member, members}
-use Rattle.simd_json_parts.specs.Followed.{fits_64}
+use Rattle.simd_json_parts.specs.Followed.{IsPlain, fits_64}
 use Rattle.simd_json_parts.specs.Integers.{integer_node}
 use Rattle.simd_json_parts.specs.Listing.{listing, elements_listing, members_listing}
 use Rattle.simd_json_parts.specs.Nodes.{Item, static_item, decimal_item, string_item, array_item, object_item}
-use Rattle.simd_json_parts.specs.Pointed.{is_array_index, named, unescaped}
+use Rattle.simd_json_parts.specs.Pointed.{is_array_index, member_at, named, unescaped}
+use Rattle.simd_json_parts.specs.Views.{get}
 use Rattle.simd_json_parts.specs.declared.node.StaticNode.{StaticNode}
 use Rattle.simd_json_parts.specs.declared.node.StaticNode.TheVariants as fixed
 use Rattle.simd_json_c.specs.Nodes.{node_of, nodes_from, span, static_node, text_of, texts}
-use Rattle.simd_json_c.specs.Placed.{AreAt, IsValueAt, before_element, before_followed, before_member, before_named}
+use Rattle.simd_json_c.specs.Placed.{AreAt, IsValueAt, before_element, before_followed, before_member, before_named, key_of}
 use Rattle.simd_json_c.specs.declared.nodes.Node.{Node}
-use Rattle.simd_json_parts.proofs.Pointers.Pointed.{found, member-here, member-later, member-none}
+use Rattle.simd_json_parts.proofs.Pointers.Keys.{unescaped-plain}
+use Rattle.simd_json_parts.proofs.Pointers.Pointed.{member-here, member-later, member-none}
 
 -- ---- parts of a list
 
@@ -125,15 +127,17 @@ pub record Header (d : Document) (node : Node) : Type 0 where
   pub of_array : node.kind ≡ 8 → (ds : Elements) × (d ≡ array ds) × (node.len ≡ length (elements ds))
   pub of_object : node.kind ≡ 9 → (ms : Members) × (d ≡ object ms) × (node.len ≡ length (members ms))
   pub of_other : node.kind ≢ 8 → node.kind ≢ 9 → (t : List ℕ) → result_ok (named t d) ≡ None
+  pub keyless : node.kind ≢ 9 → (key : List ℕ) → get key d ≡ None
 
-scalar-header : (d : Document) (node : Node) → length (listing d) ≡ 1 → node.kind < 8 → ((t : List ℕ) → result_ok (named t d) ≡ None)
-    → Header d node
+scalar-header : (d : Document) (node : Node) → length (listing d) ≡ 1 → node.kind < 8
+    → ((t : List ℕ) → (result_ok (named t d) ≡ None) × (get t d ≡ None)) → Header d node
 scalar-header d node one small none = record {
   scalar = λ less. one;
   beneath = λ more. absurd (omega (arith, more));
   of_array = λ is. absurd (omega (arith, is));
   of_object = λ is. absurd (omega (arith, is));
-  of_other = λ no no' t. none t;
+  of_other = λ no no' t. (none t).0;
+  keyless = λ no key. (none key).1;
 }
 
 abbrev head : Document → Item
@@ -160,19 +164,21 @@ headed (array ds) = refl
 headed (object ms) = refl
 
 header-of : (start : ℕ) (d : Document) → Header d (node_of start (head d))
-header-of start null = scalar-header null (node_of start (head null)) refl (static-kind start fixed.Null) (λ t. refl)
+header-of start null = scalar-header null (node_of start (head null)) refl (static-kind start fixed.Null) (λ t. (refl, refl))
 header-of start (boolean b) =
-    scalar-header (boolean b) (node_of start (head (boolean b))) refl (static-kind start (fixed.Bool b)) (λ t. refl)
+    scalar-header (boolean b) (node_of start (head (boolean b))) refl (static-kind start (fixed.Bool b)) (λ t. (refl, refl))
 header-of start (integer minus n) =
-    scalar-header (integer minus n) (node_of start (head (integer minus n))) refl (static-kind start (integer_node minus n)) (λ t. refl)
-header-of start (decimal l) = scalar-header (decimal l) (node_of start (head (decimal l))) refl (omega arith) (λ t. refl)
-header-of start (string t) = scalar-header (string t) (node_of start (head (string t))) refl (omega arith) (λ u. refl)
+    scalar-header (integer minus n) (node_of start (head (integer minus n))) refl (static-kind start (integer_node minus n))
+    (λ t. (refl, refl))
+header-of start (decimal l) = scalar-header (decimal l) (node_of start (head (decimal l))) refl (omega arith) (λ t. (refl, refl))
+header-of start (string t) = scalar-header (string t) (node_of start (head (string t))) refl (omega arith) (λ u. (refl, refl))
 header-of start (array ds) = record {
   scalar = λ less. absurd (omega (arith, less));
   beneath = λ more. refl;
   of_array = λ is. (ds, refl, refl);
   of_object = λ is. absurd (omega (arith, is));
   of_other = λ no no' t. absurd (no refl);
+  keyless = λ no key. refl;
 }
 header-of start (object ms) = record {
   scalar = λ less. absurd (omega (arith, less));
@@ -180,6 +186,7 @@ header-of start (object ms) = record {
   of_array = λ is. absurd (omega (arith, is));
   of_object = λ is. (ms, refl, refl);
   of_other = λ no no' t. absurd (no' refl);
+  keyless = λ no key. absurd (no refl);
 }
 
 pub value-header : (nodes : List Node) (text : List ℕ) (i : ℕ) (d : Document) (n : Node) → IsValueAt nodes text i d
@@ -313,51 +320,60 @@ before-later : (k key : List ℕ) (d : Document) (es : Members) → (k ≡ key �
     → before_member (member k d es) key ≡ suc (length (listing d) + before_member es key)
 before-later k key d es other = before-by (bytes_eq k key) k key _ (bytes_eq-Decides k key).0 other
 
--- what is left of the pairs, of which those before have other keys than the token, and the first lies at an index
-pub record MembersLeft (nodes : List Node) (text t : List ℕ) (ms : Members) (len first passed at : ℕ) : Type 0 where
+-- the value of the first of the pairs that has the key
+abbrev pub found_by : Option (List ℕ) → Members → Option Document
+found_by u ms = result_ok (member_at ms u)
+
+pub key-is : (is_plain : Bool) (t : List ℕ) → (is_plain ≡ true → IsPlain t) → key_of is_plain t ≡ unescaped t
+key-is true t plain = sym (unescaped-plain t (plain refl))
+key-is false t plain = refl
+
+-- what is left of the pairs, of which those before have other keys than the one that is sought, and the first lies at an index
+pub record MembersLeft (nodes : List Node) (text : List ℕ) (u : Option (List ℕ)) (ms : Members) (len first passed at : ℕ) : Type 0 where
   pub left : Members
   pub placed : AreAt nodes text at (members_listing left)
   pub count : passed + length (members left) ≡ len
-  pub same : found t left ≡ found t ms
-  pub before : (key : List ℕ) → unescaped t ≡ Some key → at + before_member left key ≡ first + before_member ms key
+  pub same : found_by u left ≡ found_by u ms
+  pub before : (key : List ℕ) → u ≡ Some key → at + before_member left key ≡ first + before_member ms key
 
-pub members-all : (nodes : List Node) (text t : List ℕ) (ms : Members) (len at : ℕ) → AreAt nodes text at (members_listing ms)
-    → len ≡ length (members ms) → MembersLeft nodes text t ms len at 0 at
-members-all nodes text t ms len at a is =
+pub members-all : (nodes : List Node) (text : List ℕ) (u : Option (List ℕ)) (ms : Members) (len at : ℕ)
+    → AreAt nodes text at (members_listing ms) → len ≡ length (members ms) → MembersLeft nodes text u ms len at 0 at
+members-all nodes text u ms len at a is =
     record { left = ms; placed = a; count = omega (arith, is); same = refl; before = λ key named. refl }
 
-pub members-none : (nodes : List Node) (text t : List ℕ) (ms : Members) (len first passed at : ℕ)
-    → MembersLeft nodes text t ms len first passed at → len ≤ passed → found t ms ≡ None
-members-none nodes text t ms len first passed at l past =
-    sym l.same ∙ member-none (unescaped t) l.left (empty (members l.left) (omega (arith, l.count, past)))
+pub members-none : (nodes : List Node) (text : List ℕ) (u : Option (List ℕ)) (ms : Members) (len first passed at : ℕ)
+    → MembersLeft nodes text u ms len first passed at → len ≤ passed → found_by u ms ≡ None
+members-none nodes text u ms len first passed at l past =
+    sym l.same ∙ member-none u l.left (empty (members l.left) (omega (arith, l.count, past)))
 
 -- any node
 abbrev pub some_node : Node
 some_node = span 0 0 0
 
 -- the next pair, whose key has this node
-pub record NextMember (nodes : List Node) (text t : List ℕ) (ms : Members) (len first passed at : ℕ) (node : Node) : Type 0 where
+pub record NextMember (nodes : List Node) (text : List ℕ) (u : Option (List ℕ)) (ms : Members) (len first passed at : ℕ) (node : Node)
+    : Type 0 where
   pub key : List ℕ
   pub value : Document
   pub key_len : node.len ≡ length key
   pub within : node.len ≤ length text - node.value
   pub key_is : take node.len (drop node.value text) ≡ key
   pub placed : IsValueAt nodes text (at + 1) value
-  pub here : unescaped t ≡ Some key → found t ms ≡ Some value
-  pub before : unescaped t ≡ Some key → at + 1 ≡ first + before_member ms (unwrap_or (unescaped t) [])
-  pub later : (unescaped t ≡ Some key → ⊥) → MembersLeft nodes text t ms len first (passed + 1) (at + 1 + length (listing value))
+  pub here : u ≡ Some key → found_by u ms ≡ Some value
+  pub before : u ≡ Some key → at + 1 ≡ first + before_member ms (unwrap_or u [])
+  pub later : (u ≡ Some key → ⊥) → MembersLeft nodes text u ms len first (passed + 1) (at + 1 + length (listing value))
 
-next-member-by : (nodes : List Node) (text t : List ℕ) (ms : Members) (len first passed at : ℕ) (n : Node) (left : Members)
-    → AreAt nodes text at (members_listing left) → passed + length (members left) ≡ len → found t left ≡ found t ms
-    → ((key : List ℕ) → unescaped t ≡ Some key → at + before_member left key ≡ first + before_member ms key) → passed < len
-    → (at < length nodes) × NextMember nodes text t ms len first passed at (get_or nodes at n)
-next-member-by nodes text t ms len first passed at n no_members a count same before less = absurd (omega (arith, count, less))
-next-member-by nodes text t ms len first passed at n (member k d es) a count same before less =
+next-member-by : (nodes : List Node) (text : List ℕ) (u : Option (List ℕ)) (ms : Members) (len first passed at : ℕ) (n : Node)
+    (left : Members) → AreAt nodes text at (members_listing left) → passed + length (members left) ≡ len → found_by u left ≡ found_by u ms
+    → ((key : List ℕ) → u ≡ Some key → at + before_member left key ≡ first + before_member ms key) → passed < len
+    → (at < length nodes) × NextMember nodes text u ms len first passed at (get_or nodes at n)
+next-member-by nodes text u ms len first passed at n no_members a count same before less = absurd (omega (arith, count, less))
+next-member-by nodes text u ms len first passed at n (member k d es) a count same before less =
     let beneath = listing d ++ members_listing es in
     let key = key-at nodes text at k beneath a in
     let placed = member-value nodes text at k d es a in
     let after = member-after nodes text at k d es a in
-    let next : NextMember nodes text t ms len first passed at (node_of a.start (string_item k)) =
+    let next : NextMember nodes text u ms len first passed at (node_of a.start (string_item k)) =
     record {
       key = k;
       value = d;
@@ -365,7 +381,7 @@ next-member-by nodes text t ms len first passed at n (member k d es) a count sam
       within = key.0;
       key_is = key.1;
       placed = placed;
-      here = λ is. sym same ∙ member-here (unescaped t) k d (member k d es) es refl is;
+      here = λ is. sym same ∙ member-here u k d (member k d es) es refl is;
       before =
           λ is. ap (λ n. at + n) (sym (before-here k d es)) ∙ before k is
           ∙ ap (λ o. first + before_member ms (unwrap_or o [])) (sym is);
@@ -373,20 +389,20 @@ next-member-by nodes text t ms len first passed at n (member k d es) a count sam
         left = es;
         placed = after;
         count = omega (arith, count);
-        same = sym (member-later (unescaped t) k d (member k d es) es refl other) ∙ same;
+        same = sym (member-later u k d (member k d es) es refl other) ∙ same;
         before = λ sought is.
             omega (arith, before-later k sought d es (λ both. other (is ∙ ap Some (sym both)))) ∙ before sought is;
       };
     } in (
       omega (arith, within-at nodes text at (string_item k) beneath a),
-      subst (NextMember nodes text t ms len first passed at) (sym (node-at nodes text at (string_item k) beneath n a)) next,
+      subst (NextMember nodes text u ms len first passed at) (sym (node-at nodes text at (string_item k) beneath n a)) next,
     )
 
-pub next-member : (nodes : List Node) (text t : List ℕ) (ms : Members) (len first passed at : ℕ) (n : Node)
-    → MembersLeft nodes text t ms len first passed at → passed < len
-    → (at < length nodes) × NextMember nodes text t ms len first passed at (get_or nodes at n)
-next-member nodes text t ms len first passed at n l less =
-    next-member-by nodes text t ms len first passed at n l.left l.placed l.count l.same l.before less
+pub next-member : (nodes : List Node) (text : List ℕ) (u : Option (List ℕ)) (ms : Members) (len first passed at : ℕ) (n : Node)
+    → MembersLeft nodes text u ms len first passed at → passed < len
+    → (at < length nodes) × NextMember nodes text u ms len first passed at (get_or nodes at n)
+next-member nodes text u ms len first passed at n l less =
+    next-member-by nodes text u ms len first passed at n l.left l.placed l.count l.same l.before less
 
 -- ---- along a pointer
 

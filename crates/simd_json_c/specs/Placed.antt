@@ -1,5 +1,5 @@
 -- Nodes and texts in the caller's memory that list a document, and the places of its values there.
-use Rattle.std.specs.Prelude.{◌≡◌, ◌+◌, ◌-◌, ◌^◌, ◌==◌, ℕ, suc, List, [], ◌∷◌, ◌++◌, length, drop, bytes_eq, unwrap_or}
+use Rattle.std.specs.Prelude.{◌≡◌, ◌+◌, ◌-◌, ◌^◌, ◌==◌, ℕ, suc, Bool, List, [], ◌∷◌, ◌++◌, length, drop, bytes_eq, unwrap_or}
 use Rattle.std.specs.Prelude.{if◌then◌else◌, Option, Some, None, option_map}
 use Rattle.std.specs.Result.{result_ok}
 use Rattle.simd_json_parts.specs.Document.{Document, array, object, Elements, element, Members, no_members, member}
@@ -34,7 +34,12 @@ abbrev pub before_member : Members → List ℕ → ℕ
 before_member no_members key = 0
 before_member (member k d ms) key = if bytes_eq k key then 1 else suc (length (listing d) + before_member ms key)
 
--- before the one that a token names; the header is one of them
+-- before the one that has a key; the header is one of them
+abbrev pub before_get : List ℕ → Document → ℕ
+before_get key (object ms) = suc (before_member ms key)
+before_get key d = 0
+
+-- before the one that a token names
 abbrev pub before_named : List ℕ → Document → ℕ
 before_named t (array ds) = suc (before_element ds (unwrap_or (array_index t) 0))
 before_named t (object ms) = suc (before_member ms (unwrap_or (unescaped t) []))
@@ -47,6 +52,10 @@ before_followed (t ∷ ts) d = before_named t d + unwrap_or (option_map (before_
 
 abbrev pub before_pointed : List ℕ → Document → ℕ
 before_pointed pointer d = before_followed (tokens_after pointer) d
+
+-- the key that a token is: as it stands, or with its escapes decoded
+abbrev pub key_of : Bool → List ℕ → Option (List ℕ)
+key_of is_plain t = if is_plain then Some t else unescaped t
 
 -- ---- what is returned
 

@@ -26,7 +26,7 @@ pub use lists::simd_json_check;
 pub use location::{Position, simd_json_location};
 pub use nodes::Node;
 pub use parser::{Parser, simd_json_close, simd_json_open, simd_json_parser_check};
-pub use pointer::simd_json_pointer;
+pub use pointer::{simd_json_key, simd_json_pointer};
 pub use print::simd_json_parser_print;
 pub use status::{ErrorPlace, simd_json_kind_name, simd_json_status_name};
 pub use version::simd_json_version;

@@ -1,17 +1,20 @@
-//! JSON Pointers (RFC 6901) through the nodes of a tape in the caller's memory.
+//! Keys and JSON Pointers (RFC 6901) in the nodes of a tape in the caller's memory.
 //!
 //! The nodes may be anything: an index is tested before a node or a text is read there. What is
 //! proved of the result is proved for nodes that list a document.
-ghost use Rattle.std.specs.Prelude.{◌≡◌, ◌≤◌, ◌<◌, ◌+◌, ◌-◌, ℕ, List, [], length, take, drop};
-ghost use Rattle.std.specs.Prelude.{IfSome, Some, option_and_then, slice_get, unwrap_or};
+ghost use Rattle.std.specs.Prelude.{◌≡◌, ◌≤◌, ◌<◌, ◌+◌, ◌-◌, ◌↔◌, ℕ, List, [], length, take};
+ghost use Rattle.std.specs.Prelude.{IfSome, IsTrue, Option, Some, drop, option_and_then, slice_get};
+ghost use Rattle.std.specs.Prelude.{true, unwrap_or};
 ghost use Rattle.std.specs.Result.{result_ok};
 ghost use Rattle.simd_json_parts.specs.Document.{Document, Elements, Members, elements, members};
-ghost use Rattle.simd_json_parts.specs.Followed.{fits_64};
+ghost use Rattle.simd_json_parts.specs.Followed.{IsPlain, fits_64};
 ghost use Rattle.simd_json_parts.specs.Listing.{elements_listing, listing, members_listing};
 ghost use Rattle.simd_json_parts.specs.Pointed.{array_index, element_at, member_at, named};
-ghost use Rattle.simd_json_parts.specs.Pointed.{pointed, unescaped};
+ghost use Rattle.simd_json_parts.specs.Pointed.{pointed};
+ghost use Rattle.simd_json_parts.specs.Views.{get};
 ghost use Rattle.simd_json_c.specs.Placed.{AreAt, IsFound, IsValueAt, before_element};
-ghost use Rattle.simd_json_c.specs.Placed.{before_member, before_named, before_pointed, index_of};
+ghost use Rattle.simd_json_c.specs.Placed.{before_get, before_member, before_named};
+ghost use Rattle.simd_json_c.specs.Placed.{before_pointed, index_of, key_of};
 
 use crate::nodes::Node;
 use simd_json_parts::pointer::{is_index, is_key, next_token, read_index};
@@ -21,8 +24,19 @@ const ARRAY: u32 = 8;
 
 const OBJECT: u32 = 9;
 
-// What is returned if a pointer names no node.
+// What is returned if there is no such node.
 const NO_NODE: usize = usize::MAX;
+
+/// Returns the index of the value of the first pair with a key in the object at index `object`.
+#[unsafe(no_mangle)]
+pub extern "C" fn simd_json_key(nodes: &[Node], text: &[u8], object: usize, key: &[u8]) -> usize
+    ensures named { (d : Document) → IsValueAt nodes.now text.now object d
+        → IsFound nodes.now text.now (index_of result) (object + before_get key.now d)
+        (get key.now d) }
+    ensures within { IfSome (index_of result) (λ i. i < length nodes.now) }
+{
+    index_or_none(nodes, keyed(nodes, text, object, key))
+}
 
 /// Returns the index of the node that a pointer names beneath the node at index `from`.
 #[unsafe(no_mangle)]
@@ -37,7 +51,17 @@ pub extern "C" fn simd_json_pointer(
         (result_ok (pointed pointer.now d)) }
     ensures within { IfSome (index_of result) (λ i. i < length nodes.now) }
 {
-    match walk(nodes, text, from, pointer) {
+    index_or_none(nodes, walk(nodes, text, from, pointer))
+}
+
+// The index of a node, or `NO_NODE`.
+fn index_or_none(nodes: &[Node], found: Option<usize>) -> usize
+    ensures named { (text : List ℕ) (place : ℕ) (value : Option Document)
+        → IsFound nodes.now text found place value
+        → IsFound nodes.now text (index_of result) place value }
+    ensures within { IfSome (index_of result) (λ i. i < length nodes.now) }
+{
+    match found {
         Some(found) if found < nodes.len() => found,
         _ => NO_NODE,
     }
@@ -52,7 +76,8 @@ fn walk(nodes: &[Node], text: &[u8], from: usize, pointer: &[u8]) -> Option<usiz
     let mut reached = from;
     let mut followed = 0;
     while let Some(token) = next_token(pointer, followed) {
-        reached = child(nodes, text, reached, &pointer[followed + 1..token.end])?;
+        let name = &pointer[followed + 1..token.end];
+        reached = child(nodes, text, reached, name, token.is_plain)?;
         followed = token.end;
     }
     if followed < pointer.len() {
@@ -61,8 +86,24 @@ fn walk(nodes: &[Node], text: &[u8], from: usize, pointer: &[u8]) -> Option<usiz
     Some(reached)
 }
 
+// The index of the value of the first pair with a key in the value at index `at`.
+fn keyed(nodes: &[Node], text: &[u8], at: usize, key: &[u8]) -> Option<usize>
+    ensures { (d : Document) → IsValueAt nodes.now text.now at d
+        → IsFound nodes.now text.now result (at + before_get key.now d) (get key.now d) }
+{
+    if at >= nodes.len() {
+        return None;
+    }
+    let node = nodes[at];
+    if node.kind != OBJECT {
+        return None;
+    }
+    member(nodes, text, at + 1, node.len as usize, key, true)
+}
+
 // The index of the value that a token names in the value at index `at`.
-fn child(nodes: &[Node], text: &[u8], at: usize, token: &[u8]) -> Option<usize>
+fn child(nodes: &[Node], text: &[u8], at: usize, token: &[u8], is_plain: bool) -> Option<usize>
+    requires { is_plain ≡ true → IsPlain token.now }
     ensures { (d : Document) → IsValueAt nodes.now text.now at d
         → IsFound nodes.now text.now result (at + before_named token.now d)
         (result_ok (named token.now d)) }
@@ -75,7 +116,7 @@ fn child(nodes: &[Node], text: &[u8], at: usize, token: &[u8]) -> Option<usize>
         return element(nodes, at + 1, node.len as usize, token);
     }
     if node.kind == OBJECT {
-        return member(nodes, text, at + 1, node.len as usize, token);
+        return member(nodes, text, at + 1, node.len as usize, token, is_plain);
     }
     None
 }
@@ -122,12 +163,19 @@ fn nth(nodes: &[Node], first: usize, index: usize) -> Option<usize>
 }
 
 // The index of the value of the first of `len` pairs, from index `first` on, with the key that a
-// token is.
-fn member(nodes: &[Node], text: &[u8], first: usize, len: usize, token: &[u8]) -> Option<usize>
+// token is: as it stands, or with its escapes decoded.
+fn member(
+    nodes: &[Node],
+    text: &[u8],
+    first: usize,
+    len: usize,
+    token: &[u8],
+    is_plain: bool,
+) -> Option<usize>
     ensures { (ms : Members) → AreAt nodes.now text.now first (members_listing ms)
         → len ≡ length (members ms) → IsFound nodes.now text.now result
-        (first + before_member ms (unwrap_or (unescaped token.now) []))
-        (result_ok (member_at ms (unescaped token.now))) }
+        (first + before_member ms (unwrap_or (key_of is_plain token.now) []))
+        (result_ok (member_at ms (key_of is_plain token.now))) }
 {
     let mut at = first;
     for passed in 0..len {
@@ -135,12 +183,24 @@ fn member(nodes: &[Node], text: &[u8], first: usize, len: usize, token: &[u8]) -
             return None;
         }
         let key = nodes[at];
-        if is_key(token, text_at(text, key.value, key.len as usize)) {
+        if is_named(token, is_plain, text_at(text, key.value, key.len as usize)) {
             return Some(at + 1);
         }
         at = after(nodes, at + 1)?;
     }
     None
+}
+
+// Whether a key is the one that a token is.
+#[inline(always)]
+fn is_named(token: &[u8], is_plain: bool, key: &[u8]) -> bool
+    ensures { IsTrue result ↔ (key_of is_plain token.now ≡ Some key.now) }
+{
+    if is_plain {
+        token == key
+    } else {
+        is_key(token, key)
+    }
 }
 
 // The index after the value at index `at`.

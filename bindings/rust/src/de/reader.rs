@@ -2,6 +2,7 @@
 use super::error::ReadError;
 use super::key::Key;
 use crate::ffi::Node;
+use crate::number::nearest;
 use crate::value::Value;
 use serde::de::value::BorrowedStrDeserializer;
 use serde::de::{
@@ -12,12 +13,6 @@ use serde::de::{
 pub(super) struct Reader<'de> {
     rest: &'de [Node],
     text: &'de str,
-}
-
-// The nearest float, by `core`, which is exact too, and faster than a call of the library.
-#[inline]
-fn double(literal: &str) -> f64 {
-    literal.parse().unwrap_or_default()
 }
 
 impl<'de> Reader<'de> {
@@ -43,6 +38,11 @@ impl<'de> Reader<'de> {
         &self.text[node.value as usize..node.value as usize + node.len as usize]
     }
 
+    #[inline]
+    fn double(&self, node: &Node) -> f64 {
+        nearest(&self.text.as_bytes()[node.value as usize..node.value as usize + node.len as usize])
+    }
+
     // Takes a node that fits, or says that it does not.
     #[inline]
     fn visit<V: Visitor<'de>>(
@@ -63,7 +63,7 @@ impl<'de> Reader<'de> {
             Node::BOOL => Unexpected::Bool(node.value != 0),
             Node::I64 => Unexpected::Signed(node.value as i64),
             Node::U64 => Unexpected::Unsigned(node.value),
-            Node::DECIMAL => Unexpected::Float(double(self.text(node))),
+            Node::DECIMAL => Unexpected::Float(self.double(node)),
             Node::STRING => Unexpected::Str(self.text(node)),
             Node::ARRAY => Unexpected::Seq,
             Node::OBJECT => Unexpected::Map,
@@ -90,7 +90,7 @@ impl<'de> Reader<'de> {
         match node.kind {
             Node::U64 => visitor.visit_u64(node.value),
             Node::I64 => visitor.visit_i64(node.value as i64),
-            Node::DECIMAL => visitor.visit_f64(double(self.text(node))),
+            Node::DECIMAL => visitor.visit_f64(self.double(node)),
             Node::I128 | Node::U128 => self.visit_wide(node, visitor),
             _ => Err(self.mismatch(node, &visitor)),
         }
@@ -171,7 +171,7 @@ impl<'de> Deserializer<'de> for &mut Reader<'de> {
     #[inline]
     fn deserialize_f64<V: Visitor<'de>>(self, visitor: V) -> Result<V::Value, ReadError> {
         self.visit(visitor, |reader, node, visitor| match node.kind {
-            Node::DECIMAL | Node::I128 | Node::U128 => visitor.visit_f64(double(reader.text(node))),
+            Node::DECIMAL | Node::I128 | Node::U128 => visitor.visit_f64(reader.double(node)),
             _ => reader.visit_number(node, visitor),
         })
     }

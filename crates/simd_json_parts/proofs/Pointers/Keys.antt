@@ -21,7 +21,7 @@ pub plain-head : (c : ℕ) (t : List ℕ) → c ≢ 126 → unescaped (c ∷ t) 
 plain-head c [] other = rw (ne_eqb c 126 other) refl
 plain-head c (e ∷ t) other = rw (ne_eqb c 126 other) refl
 
-unescaped-plain : (t : List ℕ) → IsPlain t → unescaped t ≡ Some t
+pub unescaped-plain : (t : List ℕ) → IsPlain t → unescaped t ≡ Some t
 unescaped-plain [] plain = refl
 unescaped-plain (c ∷ t) plain =
     plain-head c t (plain 0 (omega arith))

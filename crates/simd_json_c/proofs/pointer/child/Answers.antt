@@ -1,9 +1,10 @@
-use Rattle.std.proofs.Common.{◌+◌, sym, subst, arith}
+use Rattle.std.proofs.Common.{◌+◌, sym, subst, arith, []}
+use Rattle.std.specs.Prelude.{unwrap_or}
 use Rattle.std.specs.Result.{result_ok}
 use Rattle.simd_json_parts.specs.Document.{array, object}
-use Rattle.simd_json_parts.specs.Pointed.{named}
-use Rattle.simd_json_c.specs.Placed.{IsFound, IsValueAt, before_named}
-use Rattle.simd_json_c.proofs.Placing.{elements-at, members-at, value-header, value-some, value-within}
+use Rattle.simd_json_parts.specs.Pointed.{member_at, named}
+use Rattle.simd_json_c.specs.Placed.{IsFound, IsValueAt, before_member, before_named}
+use Rattle.simd_json_c.proofs.Placing.{elements-at, key-is, members-at, value-header, value-some, value-within}
 use Rattle.simd_json_c.proofs.pointer.child.Goals as goal
 
 pub returns-then-at-nodes : goal.returns-then-at-nodes
@@ -28,9 +29,11 @@ returns-then-node-eq-OBJECT c d a =
     let is = (value-header nodes text c.args.at d _ a).of_object c.if-node-eq-OBJECT.true in
     let under = members-at nodes text c.args.at is.0 (subst (IsValueAt nodes text c.args.at) is.1 a) in
     let t = c.args.token.now in
+    let found =
+    subst (λ u. IsFound nodes text c.member.result (c.args.at + 1 + before_member is.0 (unwrap_or u [])) (result_ok (member_at is.0 u)))
+    (key-is c.args.is_plain t c.requires) (c.member.ensures is.0 under is.2) in
     subst (λ e. IsFound nodes text c.member.result (c.args.at + before_named t e) (result_ok (named t e))) (sym is.1)
-    (subst (λ i. IsFound nodes text c.member.result i (result_ok (named t (object is.0)))) (omega arith)
-    (c.member.ensures is.0 under is.2))
+    (subst (λ i. IsFound nodes text c.member.result i (result_ok (named t (object is.0)))) (omega arith) found)
 
 pub returns : goal.returns
 returns c d a =

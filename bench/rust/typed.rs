@@ -1,5 +1,6 @@
 //! Typed reading, of the types and with the sums of crates/simd_json_typed_bench.
 use serde::Deserialize;
+use simd_json_proved::{from_slice_with, Buffers};
 
 #[derive(Deserialize)]
 pub struct Line<S> {
@@ -117,22 +118,23 @@ impl Sum for Map {
     }
 }
 
-const NONE: u64 = u64::MAX;
+// Of each text, at the front of its slot; 2^64 - 1 where one was rejected.
+fn all(slots: &[u8], stride: usize, len: usize, mut sum_of: impl FnMut(&[u8]) -> Option<u64>) -> u64 {
+    let mut sums = slots.chunks_exact(stride).map(|slot| sum_of(&slot[..len]));
+    sums.try_fold(0u64, |sum, one| Some(sum.wrapping_add(one?))).unwrap_or(u64::MAX)
+}
 
-fn all<'de, T: Deserialize<'de> + Sum>(texts: &'de [u8], stride: usize, len: usize) -> u64 {
-    let mut sum = 0u64;
-    for slot in texts.chunks_exact(stride) {
-        match serde_json::from_slice::<T>(&slot[..len]) {
-            Ok(value) => sum = sum.wrapping_add(value.sum()),
-            Err(_) => return NONE,
-        }
-    }
-    sum
+fn by_serde_json<'t, T: Deserialize<'t> + Sum>(_: &mut Buffers, text: &'t [u8]) -> Option<u64> {
+    serde_json::from_slice::<T>(text).ok().map(|value| value.sum())
+}
+
+fn by_crate<'b, T: Deserialize<'b> + Sum>(buffers: &'b mut Buffers, text: &[u8]) -> Option<u64> {
+    from_slice_with::<T>(buffers, text).ok().map(|value| value.sum())
 }
 
 // Exports a function for types with such strings.
 macro_rules! export {
-    ($name:ident, $text:ty) => {
+    ($name:ident, $read:ident, $text:ty) => {
         /// Reads texts of `len` bytes, one at the front of each `stride`. Returns the sum, or 2^64 - 1 where one was rejected.
         ///
         /// # Safety
@@ -141,14 +143,17 @@ macro_rules! export {
         #[no_mangle]
         pub unsafe extern "C" fn $name(texts: *const u8, size: usize, stride: usize, len: usize, form: u32) -> u64 {
             let texts = std::slice::from_raw_parts(texts, size);
+            let mut buffers = Buffers::default();
             match form {
-                0 => all::<Line<$text>>(texts, stride, len),
-                1 => all::<Timeline<$text>>(texts, stride, len),
-                _ => all::<Map>(texts, stride, len),
+                0 => all(texts, stride, len, |text| $read::<Line<$text>>(&mut buffers, text)),
+                1 => all(texts, stride, len, |text| $read::<Timeline<$text>>(&mut buffers, text)),
+                _ => all(texts, stride, len, |text| $read::<Map>(&mut buffers, text)),
             }
         }
     };
 }
 
-export!(serde_json_typed_owned, String);
-export!(serde_json_typed_borrowed, &str);
+export!(serde_json_typed_owned, by_serde_json, String);
+export!(serde_json_typed_borrowed, by_serde_json, &str);
+export!(crate_typed_owned, by_crate, String);
+export!(crate_typed_borrowed, by_crate, &str);

@@ -1,4 +1,4 @@
-//! The entries through which the benchmark times serde_json.
+//! The entries through which the benchmark times serde_json and this project's crate.
 mod typed;
 
 /// Reads a text as a `Value`, which is let go again. Negative where it was rejected.
