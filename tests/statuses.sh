@@ -332,6 +332,19 @@ program=${4:-$(dirname "$0")/../crates/jcheck_main/out/jcheck_main}
 [ -x "$program" ] || { echo "$program is not there: run make test" >&2; exit 1; }
 given '' "$room/missing"
 said 'a file that is missing, checked' 3 "jcheck: $room/missing: "
+given '{"a": "b,\n "c": 1}'
+wanted 'a missing quote' 1 \
+    '-:1:10: a line feed in the string that begins at 1:7 [Syntax at byte 9]\n{"a": "b,\n         ^\n' ''
+given '1\n{"a\tb": 1}\n' --lines
+wanted 'a tab in a line' 1 '-:2:4: a tab in the string that begins at 2:2 [Syntax at byte 5]\n{"a b": 1}\n   ^\n' ''
+given '[1,2\n[3]\n' --lines
+wanted 'a line that ends early' 1 \
+    '-:1:4: the input ends after this, within the array that begins at 1:1 [Syntax at byte 3]\n[1,2\n   ^\n' ''
+given '{"名前": "李小龙", x: 1}'
+wanted 'a caret after wide characters' 1 \
+    '-:1:15: expected a key after `,`, found `x` [ExpectedObjectKey at byte 24]\n{"名前": "李小龙", x: 1}\n%19s^\n' ''
+given '\357\273\277{}'
+wanted 'a byte order mark' 1 '-:1:1: byte order mark [InternalError at byte 0]\n<U+FEFF>{}\n^\n' ''
 for option in --color=never --lines; do
     "$program" "$option" < / > "$room/out" 2> "$room/err"
     status=$?
