@@ -4,13 +4,13 @@ _simd_json() {
     COMPREPLY=()
     case $3 in
         --color) words='auto always never' ;;
-        --depth | --longest | --and | --where | --where-not | --exists) return ;;
+        --depth | --longest | --values | --and | --where | --where-not | --exists) return ;;
     esac
     case ${1##*/}:$2 in
         jtape:*) [ "$COMP_CWORD" -gt 1 ] || words='tape positions compact pretty lines' ;;
         jcheck:-*) words='--color --depth --help --lines --version' ;;
         jpick:-*) words='--all --csv --exists --help --json --longest --quiet --raw --tsv --version --where --where-not' ;;
-        log_report:-*) words='--and --help --longest --tsv --version' ;;
+        log_report:-*) words='--and --help --longest --tsv --values --version' ;;
     esac
     [ -z "$words" ] || mapfile -t COMPREPLY < <(compgen -W "$words" -- "$2")
 }

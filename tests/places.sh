@@ -40,7 +40,7 @@ check() {
 check ', "é€" 1]' 8 10 'expected `,` or `]` after an element, found `1` [ExpectedArrayContent'
 check ',"€", nul]' 7 8 'expected `null` [ExpectedNull'
 check ', "é' 3 2 'the string that begins here has no end [Syntax'
-check ', "é\t"]' 5 5 'control character 9 in a string [Syntax'
+check ', "é\t"]' 5 5 "a tab in the string that begins at $((lines + 1)):3 [Syntax"
 check ', "é\377"]' 5 5 'byte 255 begins no UTF-8 character [InvalidUtf8'
 
 { cat "$room/rows"; printf ']'; } > "$room/in"

@@ -141,17 +141,20 @@ wanted 'a rejected document and closed standard error' 1 '' ''
 # log_report counts by keys, and by JSON Pointers.
 program=$log_report
 given '{"level":"info"}\n{"level":"warn"}\n[1,]\n{"level":"info"}\n7\n' level
-wanted 'a count by key' 1 '2 "info"\n1 -\n1 !\n1 "warn"\n' "line 3: InternalError at character 3 (']')\n"
+wanted 'a count by key' 1 '2 "info"\n1 -\n1 !\n1 "warn"\n' '-:3:4: expected a value, found `]` [InternalError]\n'
 given '{"a":{"b/c":1}}\n{"a":[]}\n{"a":{"b/c":1}}' /a/b~1c
 wanted 'a count by pointer' 0 '2 1\n1 -\n' ''
 given '{"-n":1}' -- -n
 wanted 'a key that begins with -' 0 '1 1\n' ''
 given '{"a":"x","b":1}\n{"a":"x","b":1}\n{"a":"-"}\n[1,]' a --and /b
-wanted 'a count by two values' 1 '2 "x"\t1\n1 !\n1 "-"\t-\n' "line 4: InternalError at character 3 (']')\n"
+wanted 'a count by two values' 1 '2 "x"\t1\n1 !\n1 "-"\t-\n' '-:4:4: expected a value, found `]` [InternalError]\n'
 given '{"a":"-"}\n{"a":"x\\ty"}\n{"a":null,"-b":[1]}\n[1,]' --tsv --and -b a
-wanted 'a count as TSV' 1 '1\t\\!\n1\t-\t\\-\n1\tx\\ty\t\\-\n1\t\t[1]\n' "line 4: InternalError at character 3 (']')\n"
+wanted 'a count as TSV' 1 '1\t\\!\n1\t-\t\\-\n1\tx\\ty\t\\-\n1\t\t[1]\n' '-:4:4: expected a value, found `]` [InternalError]\n'
 given '{}\n123456\n12345678' --longest 7 level
-wanted 'a line that is too long' 1 '2 -\n1 !\n' 'line 3: longer than 7 bytes\n'
+wanted 'a line that is too long' 1 '2 -\n1 !\n' '-:3: longer than 7 bytes\n'
+given '{"a":1}\n{"a":2}\n{"a":1}\n{"a":3}\n' --values 1 a
+wanted 'values without a count of their own' 0 '2 *\n2 1\n' \
+    'log_report: lines under *: 2 (--values for more than 1 values; a row has at most 1024 bytes)\n'
 given '' level
 wanted 'no line to count' 0 '' ''
 
@@ -187,13 +190,13 @@ printf '{"k":1}\n{"k":2}' > "$room/a"
 printf '[1,]\n{"k":1}' > "$room/b"
 : > "$room/none"
 given '{"k":1}' k "$room/a" - "$room/none" "$room/b"
-wanted 'files and standard input' 1 '3 1\n1 !\n1 2\n' "$room/b: line 1: InternalError at character 3 (']')\n"
+wanted 'files and standard input' 1 '3 1\n1 !\n1 2\n' "$room/b:1:4: expected a value, found \`]\` [InternalError]\\n"
 given '[1,]' k -
-wanted 'standard input by its name' 1 '1 !\n' "-: line 1: InternalError at character 3 (']')\n"
-given '' k "$room/a" "$room/missing" "$room/b"
-said 'a file that is missing' 3 "log_report: $room/missing: "
-given '' k "$room/a" "$room"
-said 'a folder among files' 3 "log_report: $room: "
+wanted 'standard input by its name' 1 '1 !\n' '-:1:4: expected a value, found `]` [InternalError]\n'
+given '' k "$room/missing" "$room/a" "$room" "$room/b"
+sed -i "s|$room/||; s|$room|room|; s|: No such.*||; s|: Is a .*||" "$room/err"
+wanted 'files that are missing, and a folder' 3 '2 1\n1 !\n1 2\n' \
+    'b:1:4: expected a value, found `]` [InternalError]\nlog_report: missing\nlog_report: room\n'
 
 # What can't be read or written. Who closes the report has had enough of it.
 "$program" level < / > "$room/out" 2> "$room/err"
@@ -214,7 +217,7 @@ closed() {
 closed '{"k":1}\n{"k":2}\n'
 wanted 'a closed report' 0 '' ''
 closed '{"k":1}\n[1,]\n'
-wanted 'a closed report, and a rejected line' 1 '' "line 2: InternalError at character 3 (']')\n"
+wanted 'a closed report, and a rejected line' 1 '' '-:2:4: expected a value, found `]` [InternalError]\n'
 
 # slowly NAME STATUS OUT ERR ARGUMENTS..: what the program must leave of three lines that come a byte at a time, from standard
 # input and from the same pipe as a file.
@@ -232,7 +235,7 @@ slowly() {
         wanted "$name, $file" "$wanted_status" "$wanted_out" "$wanted_err"
     done
 }
-slowly 'a slow pipe, counted' 1 '1 !\n1 1\n1 2\n' "FILE: line 2: InternalError at character 3 (']')\n" k
+slowly 'a slow pipe, counted' 1 '1 !\n1 1\n1 2\n' 'FILE:2:4: expected a value, found `]` [InternalError]\n' k
 
 # Fields of lines.
 program=${3:-$(dirname "$0")/../crates/jpick_main/out/jpick_main}
@@ -332,6 +335,19 @@ program=${4:-$(dirname "$0")/../crates/jcheck_main/out/jcheck_main}
 [ -x "$program" ] || { echo "$program is not there: run make test" >&2; exit 1; }
 given '' "$room/missing"
 said 'a file that is missing, checked' 3 "jcheck: $room/missing: "
+given '{"a": "b,\n "c": 1}'
+wanted 'a missing quote' 1 \
+    '-:1:10: a line feed in the string that begins at 1:7 [Syntax at byte 9]\n{"a": "b,\n         ^\n' ''
+given '1\n{"a\tb": 1}\n' --lines
+wanted 'a tab in a line' 1 '-:2:4: a tab in the string that begins at 2:2 [Syntax at byte 5]\n{"a b": 1}\n   ^\n' ''
+given '[1,2\n[3]\n' --lines
+wanted 'a line that ends early' 1 \
+    '-:1:4: the input ends after this, within the array that begins at 1:1 [Syntax at byte 3]\n[1,2\n   ^\n' ''
+given '{"名前": "李小龙", x: 1}'
+wanted 'a caret after wide characters' 1 \
+    '-:1:15: expected a key after `,`, found `x` [ExpectedObjectKey at byte 24]\n{"名前": "李小龙", x: 1}\n%19s^\n' ''
+given '\357\273\277{}'
+wanted 'a byte order mark' 1 '-:1:1: byte order mark [InternalError at byte 0]\n<U+FEFF>{}\n^\n' ''
 for option in --color=never --lines; do
     "$program" "$option" < / > "$room/out" 2> "$room/err"
     status=$?

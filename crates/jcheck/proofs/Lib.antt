@@ -1,4 +1,5 @@
 mod Characters
+mod Opened
 mod Puts
 mod Shown
 mod Streams

@@ -1,6 +1,6 @@
 -- The text of a line around a place, and a caret under it.
-use Rattle.std.specs.Prelude.{ℕ, zero, suc, ◌-◌, ◌/◌, List, [], ◌∷◌, ◌++◌, map, min, drop, count_by, codes, nat_le, nat_lt, encode_utf8_all}
-use Rattle.std.specs.Prelude.{Bool, true, false, if◌then◌else◌}
+use Rattle.std.specs.Prelude.{ℕ, zero, suc, ◌-◌, ◌/◌, List, [], ◌∷◌, ◌++◌, flat_map, min, drop, count_by, codes, nat_le, nat_lt, encode_utf8}
+use Rattle.std.specs.Prelude.{Bool, true, false, ◌==◌, if◌then◌else◌}
 use Rattle.std.specs.Char.{is_control}
 use Rattle.std.specs.List.{before_first, repeat}
 use Rattle.std.specs.Str.{chars}
@@ -8,6 +8,7 @@ use Rattle.std.specs.Str.Lossy.{utf8_lossy}
 use Rattle.jcheck.specs.declared.excerpt.Style.{Style}
 use Rattle.simd_json_check.specs.Locations.{begins_character, is_line_feed, line_before}
 use Rattle.simd_json_parts.specs.Bytes.{line_feed, space}
+use Rattle.unicode_width.specs.Width.{str_width}
 
 -- ---- characters, by the bytes that begin one
 
@@ -29,12 +30,12 @@ last_characters n (x ∷ s) = if nat_le n (characters s) then last_characters n 
 
 -- ---- how they are shown
 
--- a control character as a space
-abbrev pub visible : ℕ → ℕ
-visible c = if is_control c then space else c
+-- a control character as a space, and a byte order mark, which a terminal does not show, by its number
+abbrev pub visible : ℕ → List ℕ
+visible c = if is_control c then space ∷ [] else if c == 0xfeff then codes "<U+FEFF>" else encode_utf8 c
 
 abbrev pub visible_text : List ℕ → List ℕ
-visible_text cs = encode_utf8_all (map visible cs)
+visible_text cs = flat_map visible cs
 
 -- what is not UTF-8 as U+FFFD
 abbrev pub lossy_text : List ℕ → List ℕ
@@ -69,9 +70,9 @@ abbrev pub caret : Bool → List ℕ
 caret false = codes "^"
 caret true = (0x1b ∷ codes "[1;31m^") ++ (0x1b ∷ codes "[m")
 
--- a line of text, and a line with a caret under byte i
+-- a line of text, and a line with a caret under byte i, after as many columns of a terminal as the text before it takes
 abbrev pub excerpt : Style → List ℕ → ℕ → List ℕ
 excerpt style b i =
-    let shift = indent style.width b i in
-    end_text (style.width / 2) (line_before b i) ++ front_text (style.width - shift) (line_from b i) ++ (line_feed ∷ [])
-    ++ repeat shift (space ∷ []) ++ caret style.is_colored ++ (line_feed ∷ [])
+    let before = end_text (style.width / 2) (line_before b i) in
+    before ++ front_text (style.width - indent style.width b i) (line_from b i) ++ (line_feed ∷ [])
+    ++ repeat (str_width false (chars before)) (space ∷ []) ++ caret style.is_colored ++ (line_feed ∷ [])

@@ -3,41 +3,36 @@ use Rattle.std.specs.Prelude.{ℕ, ◌+◌, ◌-◌, ◌^◌, min, List, [], ◌
 use Rattle.std.specs.Prelude.{if◌then◌else◌}
 use Rattle.std.specs.Fmt.{decimal}
 use Rattle.jcheck.specs.Excerpts.{excerpt}
+use Rattle.jcheck.specs.Messages.{message_text, opening_of}
+use Rattle.jcheck.specs.declared.message.Opening.{Opening}
 use Rattle.simd_json_check.specs.Reasons.{found_in}
 use Rattle.jcheck.specs.declared.excerpt.Style.{Style}
+use Rattle.jsonl.specs.Rejections.{shown_kind}
 use Rattle.simd_json_parts.specs.Pieces.{is_blank}
-use Rattle.simd_json_check.specs.Messages.{reason_text}
 use Rattle.simd_json_check.specs.declared.location.Location.{Location}
-use Rattle.simd_json_check.specs.declared.location.reason.Reason.{Reason}
-use Rattle.simd_json_check.specs.declared.location.reason.Reason.TheVariants.{MoreText}
 use Rattle.simd_json_parts.specs.Bytes.{line_feed}
 use Rattle.simd_json_parts.specs.ErrorKinds.{kind_text}
 use Rattle.simd_json_parts.specs.declared.error.ErrorType.{ErrorType}
-use Rattle.simd_json_parts.specs.declared.error.ErrorType.TheVariants.{TrailingData}
-
--- a parse has two kinds for more text after the document, by what its root is; one is shown
-abbrev pub shown_kind : Reason → ErrorType → ErrorType
-shown_kind MoreText kind = TrailingData
-shown_kind _ kind = kind
 
 -- FILE:LINE:COLUMN: REASON [KIND at byte BYTE]
-abbrev pub words_of : List ℕ → ℕ → ℕ → Location → ErrorType → List ℕ
-words_of file line byte l kind =
-    file ++ codes ":" ++ decimal line ++ codes ":" ++ decimal l.column ++ codes ": " ++ reason_text l.reason
+abbrev pub words_of : List ℕ → ℕ → ℕ → Location → Option Opening → ErrorType → List ℕ
+words_of file line byte l opening kind =
+    file ++ codes ":" ++ decimal line ++ codes ":" ++ decimal l.column ++ codes ": " ++ message_text l.reason opening
     ++ codes " [" ++ kind_text kind ++ codes " at byte " ++ decimal byte ++ codes "]"
 
-abbrev pub words : List ℕ → ℕ → ℕ → Location → List ℕ
-words file line byte l = words_of file line byte l (shown_kind l.reason l.error.error)
+abbrev pub words : List ℕ → ℕ → ℕ → ℕ → List ℕ → Location → List ℕ
+words file limit line byte checked l =
+    words_of file line byte l (opening_of limit line checked l) (shown_kind l.reason l.error.error)
 
 -- of an error at this line and byte of its file: the words, and the text around it in the bytes that were checked
-abbrev pub report : List ℕ → Style → ℕ → ℕ → List ℕ → Location → List ℕ
-report file style line byte checked l = words file line byte l ++ (line_feed ∷ []) ++ excerpt style checked l.byte
+abbrev pub report : List ℕ → Style → ℕ → ℕ → ℕ → List ℕ → Location → List ℕ
+report file style limit line byte checked l = words file limit line byte checked l ++ (line_feed ∷ []) ++ excerpt style checked l.byte
 
 -- ---- of an input that is one document
 
-abbrev pub whole_text : List ℕ → Style → List ℕ → Option Location → List ℕ
-whole_text file style input None = []
-whole_text file style input (Some l) = report file style l.line l.byte input l
+abbrev pub whole_text : List ℕ → Style → ℕ → List ℕ → Option Location → List ℕ
+whole_text file style limit input None = []
+whole_text file style limit input (Some l) = report file style limit l.line l.byte input l
 
 -- ---- of lines, each a document of its own
 
@@ -45,14 +40,14 @@ whole_text file style input (Some l) = report file style l.line l.byte input l
 abbrev pub place_after : ℕ → ℕ → ℕ
 place_after start byte = min (start + byte) (2 ^ 64 - 1)
 
-abbrev pub found_text : List ℕ → Style → ℕ → ℕ → List ℕ → Option Location → List ℕ
-found_text file style number start line None = []
-found_text file style number start line (Some l) = report file style number (place_after start l.byte) line l
+abbrev pub found_text : List ℕ → Style → ℕ → ℕ → ℕ → List ℕ → Option Location → List ℕ
+found_text file style limit number start line None = []
+found_text file style limit number start line (Some l) = report file style limit number (place_after start l.byte) line l
 
 -- of the line with this number, which begins at byte `start`
 abbrev pub line_text : List ℕ → Style → ℕ → ℕ → ℕ → List ℕ → List ℕ
 line_text file style limit number start line =
-    if is_blank line then [] else found_text file style number start line (found_in line limit)
+    if is_blank line then [] else found_text file style limit number start line (found_in line limit)
 
 -- of that line and those after it
 abbrev pub lines_text : List ℕ → Style → ℕ → ℕ → ℕ → List (List ℕ) → List ℕ

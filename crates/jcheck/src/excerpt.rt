@@ -1,14 +1,14 @@
 //! The text of a line around a place, and a caret under it.
-ghost use Rattle.std.specs.Prelude.{◌≡◌, ◌≤◌, ◌∷◌, ◌++◌, [], chars, drop, length, take};
-ghost use Rattle.std.specs.List.{after_last, position_or_len, repeat};
+ghost use Rattle.std.specs.Prelude.{◌≡◌, ◌≤◌, ◌++◌, IfOk, OnOk, drop, length, string_bytes, take};
+ghost use Rattle.std.specs.List.{after_last, position_or_len};
 ghost use Rattle.jcheck.specs.Excerpts.{caret, characters, end_text, excerpt};
 ghost use Rattle.jcheck.specs.Excerpts.{first_characters, front_text, last_characters, lossy_text};
-ghost use Rattle.jcheck.specs.Excerpts.{visible, visible_text};
-ghost use Rattle.simd_json_check.specs.Locations.{begins_character, is_line_feed};
-ghost use Rattle.simd_json_parts.specs.Bytes.{line_feed, space};
-ghost use Rattle.simd_json_print.specs.Texts.{Adds};
+ghost use Rattle.jcheck.specs.Excerpts.{visible};
+ghost use Rattle.simd_json_check.specs.Locations.{begins_character, column_of, is_line_feed};
+ghost use Rattle.simd_json_check.specs.Locations.{line_at};
 
-use simd_json_print::text::{Target, Text};
+use std::alloc::{AllocError, Global};
+use unicode_width::UnicodeWidthStr;
 
 /// How the text around a place is shown.
 #[derive(Clone, Copy)]
@@ -19,69 +19,68 @@ pub struct Style {
     pub is_colored: bool,
 }
 
-/// Appends a line with the characters around a byte of the input that are in its line, and a line
+/// Returns a line with the characters around a byte of the input that are in its line, and a line
 /// with a caret under that byte. At most `style.width` characters are shown, and half of them
 /// before the byte; where the line is cut, `…` is the first or the last of them, if there is room
-/// for it. Control characters are shown as spaces, and what is not UTF-8 as U+FFFD.
-pub fn put_excerpt<T: Target, const SIZE: usize>(
-    text: &mut Text<'_, T, SIZE>,
+/// for it. Control characters are shown as spaces, a byte order mark by its number, and what is not
+/// UTF-8 as U+FFFD.
+///
+/// Returns an error if an allocation fails.
+pub fn excerpt(
+    alloc: Global,
     input: &[u8],
     byte: usize,
     style: Style,
-)
-    ensures { Adds T.state text.old text.new (excerpt style input.now byte) }
+) -> Result<String, AllocError>
+    ensures { IfOk result (λ text. string_bytes text ≡ excerpt style input.now byte) }
 {
     let Style { width, is_colored } = style;
     let (before, after) = input.split_at(byte.min(input.len()));
     let (_, line) = before.split_at(line_start(before));
     let (rest, _) = after.split_at(line_end(after));
     let indent = characters(line).min(width / 2);
-    put_end(text, line, width / 2);
-    put_front(text, rest, width.saturating_sub(indent));
-    text.put(b"\n");
-    put_spaces(text, indent);
-    put_caret(text, is_colored);
+    let end = end_text(alloc, line, width / 2)?;
+    let front = front_text(alloc, rest, width.saturating_sub(indent))?;
+    let spaces = " ".repeat(alloc, end.as_str().width())?;
+    let caret = caret(is_colored);
+    format!(in alloc; "{end}{front}\n{spaces}{caret}\n")
 }
 
-// Puts a caret, and a line feed.
-fn put_caret<T: Target, const SIZE: usize>(text: &mut Text<'_, T, SIZE>, is_colored: bool)
-    ensures { Adds T.state text.old text.new (caret is_colored ++ (line_feed ∷ [])) }
+// Bold and red, if it is coloured.
+fn caret(is_colored: bool) -> &'static str
+    ensures { result.now ≡ caret is_colored }
 {
-    if is_colored {
-        text.put(b"\x1b[1;31m^\x1b[m\n");
-    } else {
-        text.put(b"^\n");
-    }
+    if is_colored { "\x1b[1;31m^\x1b[m" } else { "^" }
 }
 
-// Puts the end of a text, in at most `most` characters.
-fn put_end<T: Target, const SIZE: usize>(text: &mut Text<'_, T, SIZE>, bytes: &[u8], most: usize)
-    ensures { Adds T.state text.old text.new (end_text most bytes.now) }
+// The end of a text, in at most `most` characters.
+fn end_text(alloc: Global, bytes: &[u8], most: usize) -> Result<String, AllocError>
+    ensures { IfOk result (λ text. string_bytes text ≡ end_text most bytes.now) }
 {
     let Some(kept) = most.checked_sub(1) else {
-        return;
+        return Ok(String::new(alloc));
     };
     if characters(bytes) <= most {
-        return put_shown(text, bytes);
+        return shown(alloc, bytes);
     }
     let (_, end) = bytes.split_at(step_back(bytes, kept));
-    text.put("\u{2026}".as_bytes());
-    put_shown(text, end);
+    let end = shown(alloc, end)?;
+    format!(in alloc; "\u{2026}{end}")
 }
 
-// Puts the beginning of a text, in at most `most` characters.
-fn put_front<T: Target, const SIZE: usize>(text: &mut Text<'_, T, SIZE>, bytes: &[u8], most: usize)
-    ensures { Adds T.state text.old text.new (front_text most bytes.now) }
+// The beginning of a text, in at most `most` characters.
+fn front_text(alloc: Global, bytes: &[u8], most: usize) -> Result<String, AllocError>
+    ensures { IfOk result (λ text. string_bytes text ≡ front_text most bytes.now) }
 {
     let Some(kept) = most.checked_sub(1) else {
-        return;
+        return Ok(String::new(alloc));
     };
     if characters(bytes) <= most {
-        return put_shown(text, bytes);
+        return shown(alloc, bytes);
     }
     let (front, _) = bytes.split_at(step_on(bytes, kept));
-    put_shown(text, front);
-    text.put("\u{2026}".as_bytes());
+    let front = shown(alloc, front)?;
+    format!(in alloc; "{front}\u{2026}")
 }
 
 // The index after which `most` characters are left, or 0 if there are fewer.
@@ -143,6 +142,23 @@ fn line_end(bytes: &[u8]) -> usize
     end
 }
 
+/// Returns the line of a byte: from 1, by line feeds.
+pub fn line(input: &[u8], byte: usize) -> usize
+    ensures { result ≡ line_at input.now byte }
+{
+    let (before, _) = input.split_at(byte.min(input.len()));
+    before.iter().filter(|c| **c == b'\n').count() + 1
+}
+
+/// Returns the column of a byte: from 1, in characters.
+pub fn column(input: &[u8], byte: usize) -> usize
+    ensures { result ≡ column_of input.now byte }
+{
+    let (before, _) = input.split_at(byte.min(input.len()));
+    let (_, line) = before.split_at(line_start(before));
+    characters(line) + 1
+}
+
 fn characters(bytes: &[u8]) -> usize
     ensures { result ≡ characters bytes.now }
 {
@@ -156,39 +172,27 @@ fn begins_character(byte: u8) -> bool
     !matches!(byte, 0x80..=0xbf)
 }
 
-// Puts the text of the bytes, all of it visible.
-fn put_shown<T: Target, const SIZE: usize>(text: &mut Text<'_, T, SIZE>, bytes: &[u8])
-    ensures { Adds T.state text.old text.new (lossy_text bytes.now) }
+// The text of the bytes, all of it visible.
+fn shown(alloc: Global, bytes: &[u8]) -> Result<String, AllocError>
+    ensures { IfOk result (λ text. string_bytes text ≡ lossy_text bytes.now) }
 {
-    for chunk in bytes.utf8_chunks() {
-        put_visible(text, chunk.valid());
-        if !chunk.invalid().is_empty() {
-            text.put("\u{fffd}".as_bytes());
-        }
+    let lossy = String::from_utf8_lossy(alloc, bytes)?;
+    let mut text = String::new(alloc);
+    for c in lossy.as_str().chars() {
+        push_visible(&mut text, c)?;
     }
+    Ok(text)
 }
 
-fn put_visible<T: Target, const SIZE: usize>(text: &mut Text<'_, T, SIZE>, characters: &str)
-    ensures { Adds T.state text.old text.new (visible_text (chars characters.now)) }
+// A control character is shown as a space, and a byte order mark by its number.
+fn push_visible(text: &mut String, c: char) -> Result<(), AllocError>
+    ensures { OnOk result (string_bytes text.new ≡ string_bytes text.old ++ visible c) }
 {
-    for c in characters.chars() {
-        text.put(visible(c).encode_utf8(&mut [0; 4]).as_bytes());
-    }
-}
-
-// A control character is shown as a space.
-fn visible(c: char) -> char
-    ensures { result ≡ visible c }
-{
-    if c.is_control() { ' ' } else { c }
-}
-
-fn put_spaces<T: Target, const SIZE: usize>(text: &mut Text<'_, T, SIZE>, count: usize)
-    ensures { Adds T.state text.old text.new (repeat count (space ∷ [])) }
-{
-    let mut left = count;
-    while left > 0 {
-        text.put(b" ");
-        left -= 1;
+    if c.is_control() {
+        text.push(' ')
+    } else if c == '\u{feff}' {
+        text.push_str("<U+FEFF>")
+    } else {
+        text.push(c)
     }
 }

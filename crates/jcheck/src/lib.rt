@@ -34,6 +34,7 @@ mod checker;
 mod excerpt;
 mod failure;
 mod lines;
+mod message;
 mod options;
 mod report;
 mod terminal;

@@ -268,6 +268,6 @@ fn put_line<T: Target, const SIZE: usize>(
         byte: start.byte.saturating_add(location.byte()),
         ..start
     };
-    place.put(checker.alloc(), text, line, &location, style)?;
+    place.put(checker, text, line, &location, style)?;
     Ok(false)
 }

@@ -4,16 +4,20 @@ ghost use Rattle.std.specs.Prelude.{IfOk, IfErr, OnOk, OnErr};
 ghost use Rattle.std.specs.Io.KnownBytes.{Appends};
 ghost use Rattle.jcheck.specs.Endings.{HasChecked, ended_of, is_closed, ended_status, worse};
 ghost use Rattle.simd_json_check.specs.Reasons.{found_in};
-ghost use Rattle.jcheck.specs.Reports.{report, whole_text, words, words_of};
+ghost use Rattle.jcheck.specs.Reports.{report, whole_text, words_of};
+ghost use Rattle.jsonl.specs.Rejections.{shown_kind};
+ghost use Rattle.jcheck.specs.Messages.{open_at, opening_at, opening_of};
 ghost use Rattle.jcheck.specs.Writings.{HasPart, HasStopped};
 ghost use Rattle.simd_json_parts.specs.Bytes.{line_feed};
 ghost use Rattle.simd_json_print.specs.Texts.{Adds};
 
 use crate::checker::Checker;
-use crate::excerpt::{Style, put_excerpt};
+use crate::excerpt::{Style, column, excerpt, line};
 use crate::failure::Failure;
+use crate::message::{Message, Opened, Opening};
 use jsonl::Channel;
 use simd_json_check::{ErrorType, Location, Reason};
+use simd_json_parts::charutils::byte_or_space;
 use simd_json_print::text::{Target, Text};
 use std::alloc::{AllocError, Global};
 use std::io::Write;
@@ -117,10 +121,12 @@ pub fn check_document<W: Write>(
         ≡ is_none (found_in input.now checker.old.depth)) }
     ensures written { OnOk result ((out.new.failed ≡ false)
         × Appends (W.contents out.old.inner) (W.contents out.new.inner)
-        (whole_text file.now style input.now (found_in input.now checker.old.depth))) }
+        (whole_text file.now style checker.old.depth input.now
+        (found_in input.now checker.old.depth))) }
     ensures stopped { IfErr result (λ e. HasStopped e out.new.failed
         (W.contents out.old.inner) (W.contents out.new.inner)
-        (whole_text file.now style input.now (found_in input.now checker.old.depth))) }
+        (whole_text file.now style checker.old.depth input.now
+        (found_in input.now checker.old.depth))) }
     ensures depth { checker.new.depth ≡ checker.old.depth }
 {
     let mut text = Text::<Channel<W>, PIECE>::new(out);
@@ -141,9 +147,11 @@ fn put_whole<T: Target, const SIZE: usize>(
     ensures clean { IfOk result (λ clean. clean
         ≡ is_none (found_in input.now checker.old.depth)) }
     ensures put { OnOk result (Adds T.state text.old text.new
-        (whole_text file.now style input.now (found_in input.now checker.old.depth))) }
+        (whole_text file.now style checker.old.depth input.now
+        (found_in input.now checker.old.depth))) }
     ensures stopped { OnErr result (HasPart T.state text.old text.new
-        (whole_text file.now style input.now (found_in input.now checker.old.depth))) }
+        (whole_text file.now style checker.old.depth input.now
+        (found_in input.now checker.old.depth))) }
     ensures depth { checker.new.depth ≡ checker.old.depth }
 {
     let Some(location) = checker.check(input)? else {
@@ -154,7 +162,7 @@ fn put_whole<T: Target, const SIZE: usize>(
         line: location.line(),
         byte: location.byte(),
     };
-    place.put(checker.alloc(), text, input, &location, style)?;
+    place.put(checker, text, input, &location, style)?;
     Ok(false)
 }
 
@@ -174,32 +182,69 @@ impl FilePlace<'_> {
     /// were checked. If an allocation fails, nothing is appended.
     pub fn put<T: Target, const SIZE: usize>(
         self,
-        alloc: Global,
+        checker: &mut Checker,
         text: &mut Text<'_, T, SIZE>,
         checked: &[u8],
         location: &Location,
         style: Style,
     ) -> Result<(), AllocError>
         ensures put { OnOk result (Adds T.state text.old text.new
-            (report self.entry.file.now style self.entry.line self.entry.byte
+            (report self.entry.file.now style checker.old.depth self.entry.line self.entry.byte
             checked.now location.now)) }
         ensures none { OnErr result (Adds T.state text.old text.new []) }
+        ensures depth { checker.new.depth ≡ checker.old.depth }
     {
-        let words = self.words(alloc, location)?;
+        let opening = self.opening(checker, checked, location)?;
+        let words = self.words(checker.alloc(), location, opening)?;
+        let excerpt = excerpt(checker.alloc(), checked, location.byte(), style)?;
         text.put(words.as_bytes());
-        put_excerpt(text, checked, location.byte(), style);
+        text.put(excerpt.as_bytes());
         Ok(())
     }
 
+    // What is open at the place, and where it begins in the file.
+    fn opening(
+        self,
+        checker: &mut Checker,
+        checked: &[u8],
+        location: &Location,
+    ) -> Result<Option<Opening>, AllocError>
+        ensures found { IfOk result (λ opening. opening
+            ≡ opening_of checker.old.depth self.entry.line checked.now location.now) }
+        ensures depth { checker.new.depth ≡ checker.old.depth }
+    {
+        let Some(byte) = open_at(checker, checked, location)? else {
+            return Ok(None);
+        };
+        Ok(Some(self.opening_at(checked, location.byte(), byte)))
+    }
+
+    // What begins at a byte, where a later one is at this place.
+    fn opening_at(self, checked: &[u8], later: usize, byte: usize) -> Opening
+        ensures { result ≡ opening_at self.entry.line checked.now later byte }
+    {
+        let lines = line(checked, later).saturating_sub(line(checked, byte));
+        Opening {
+            opened: Opened::by(byte_or_space(checked, byte)),
+            line: self.line.saturating_sub(lines),
+            column: column(checked, byte),
+        }
+    }
+
     // Where and why, as one line.
-    fn words(self, alloc: Global, location: &Location) -> Result<String, AllocError>
+    fn words(
+        self,
+        alloc: Global,
+        location: &Location,
+        opening: Option<Opening>,
+    ) -> Result<String, AllocError>
         ensures { IfOk result (λ text. string_bytes text
-            ≡ words self.entry.file.now self.entry.line self.entry.byte location.now
-            ++ line_feed ∷ []) }
+            ≡ words_of self.entry.file.now self.entry.line self.entry.byte location.now opening
+            (shown_kind location.now.reason location.now.error.error) ++ line_feed ∷ []) }
     {
         match location.reason() {
-            Reason::MoreText => self.words_of(alloc, location, &ErrorType::TrailingData),
-            _ => self.words_of(alloc, location, location.error().error()),
+            Reason::MoreText => self.words_of(alloc, location, opening, &ErrorType::TrailingData),
+            _ => self.words_of(alloc, location, opening, location.error().error()),
         }
     }
 
@@ -208,15 +253,39 @@ impl FilePlace<'_> {
         self,
         alloc: Global,
         location: &Location,
+        opening: Option<Opening>,
         kind: &ErrorType,
     ) -> Result<String, AllocError>
         ensures { IfOk result (λ text. string_bytes text
-            ≡ words_of self.entry.file.now self.entry.line self.entry.byte location.now kind.now
+            ≡ words_of self.entry.file.now self.entry.line self.entry.byte location.now opening kind.now
             ++ line_feed ∷ []) }
     {
         let FilePlace { file, line, byte } = self;
         let column = location.column();
         let reason = location.reason();
-        format!(in alloc; "{file}:{line}:{column}: {reason} [{kind} at byte {byte}]\n")
+        let message = Message { reason, opening };
+        format!(in alloc; "{file}:{line}:{column}: {message} [{kind} at byte {byte}]\n")
+    }
+}
+
+// The first byte of what is open at the place of an error: of the string that holds a control
+// character, or of the last bracket that is not closed where the input ends.
+fn open_at(
+    checker: &mut Checker,
+    checked: &[u8],
+    location: &Location,
+) -> Result<Option<usize>, AllocError>
+    ensures found { IfOk result (λ found. found
+        ≡ open_at checker.old.depth checked.now location.now.byte location.now.reason) }
+    ensures depth { checker.new.depth ≡ checker.old.depth }
+{
+    match location.reason() {
+        Reason::ControlCharacter(_) => {
+            let (before, _) = checked.split_at(location.byte().min(checked.len()));
+            let string = checker.check(before)?;
+            Ok(string.map(|string| string.byte()))
+        }
+        Reason::EndOfInput => checker.open_bracket(checked),
+        _ => Ok(None),
     }
 }

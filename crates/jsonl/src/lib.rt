@@ -2,8 +2,9 @@
 //!
 //! - [`Channel`]: a reader or a writer that records whether a call on it failed, and whether it
 //!   ended. [`Source`]: a file or standard input, which records why it can't be read.
-//! - [`Lines`]: cuts what a reader gives into lines, in bounded memory. [`put_name`]: writes the
-//!   name of a rejected line.
+//! - [`read_all`]: all bytes of a reader. [`Lines`]: cuts what a reader gives into lines, in bounded memory. [`rejection_words`]: names a
+//!   rejected line; [`put_name`] writes that after the name of its file.
+//! - [`tsv_escape`]: what stands for a byte in tab separated text.
 //! - [`Failure`]: why a run ended before the end of its input. [`ending`]: the exit status, and the
 //!   line for standard error.
 //! - [`arguments`]: the words of the command line. [`help_status`]: the exit status after help.
@@ -34,10 +35,16 @@ mod channel;
 mod command_line;
 mod failure;
 mod lines;
+mod rejection;
 mod source;
+mod tsv;
+mod whole;
 
 pub use channel::Channel;
 pub use command_line::{arguments, help_status};
 pub use failure::{Failure, ending, put_name};
 pub use lines::{Lines, Step};
+pub use rejection::{Words, rejection_words};
 pub use source::Source;
+pub use tsv::tsv_escape;
+pub use whole::read_all;

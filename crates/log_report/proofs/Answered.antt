@@ -26,12 +26,12 @@ answered-error b limit capacity e nodes listed p has is =
     ap (answer b) (sym is) ∙ elim p.rejected [ inl rejected ↦ rejected.answered | inr lacks ↦ absurd (has (ap Some lacks.0.0)) ]
 
 -- of a line that is rejected
-pub rejected-line : (w : Wanted) (label : List ℕ) (r : Report) (line : List ℕ) (limit capacity : ℕ) (answer : Result Unit Error) (e : Error)
+pub rejected-line : (w : Wanted) (file : List ℕ) (r : Report) (line : List ℕ) (limit capacity : ℕ) (answer : Result Unit Error) (e : Error)
     (nodes : List Item) (listed : List ℕ) → answer ≡ Err e → IsParse line limit capacity (result_err answer) nodes listed
     → HasMemory (result_err answer) → limit ≡ default_max_depth → length line ≤ w.longest → is_blank line ≡ false
-    → with_rejection w label (next r) (Some e) ≡ with_line w label r line
-rejected-line w label r line limit capacity answer e nodes listed is parse has limited fits some =
-    ap (with_answer w label (next r)) (sym (answered-error line limit capacity e nodes listed
+    → with_rejection w file (next r) line (Some e) ≡ with_line w file r line
+rejected-line w file r line limit capacity answer e nodes listed is parse has limited fits some =
+    ap (with_answer w file (next r) line) (sym (answered-error line limit capacity e nodes listed
     (subst (λ a. IsParse line limit capacity (result_err a) nodes listed) is parse)
     (subst (λ a. HasMemory (result_err a)) is has) limited))
-    ∙ short-line w label r line false fits some
+    ∙ short-line w file r line false fits some

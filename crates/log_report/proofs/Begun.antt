@@ -27,19 +27,20 @@ grows-if : (b : Bool) (r s t : Report) → Grows r s → Grows r t → Grows r (
 grows-if true r s t g h = g
 grows-if false r s t g h = h
 
-grows-answer : (w : Wanted) (label : List ℕ) (r : Report) (a : Result Document Error) → Grows r (with_answer w label r a)
-grows-answer w label r (Ok d) = grows-none r _ refl
-grows-answer w label r (Err e) = record { more = rejection_line w label r.number (Some e); all = refl }
+grows-answer : (w : Wanted) (file : List ℕ) (r : Report) (line : List ℕ) (a : Result Document Error)
+    → Grows r (with_answer w file r line a)
+grows-answer w file r line (Ok d) = grows-none r _ refl
+grows-answer w file r line (Err e) = record { more = rejection_line w file r.number line (Some e); all = refl }
 
-grows-line : (w : Wanted) (label : List ℕ) (r : Report) (line : List ℕ) → Grows r (with_line w label r line)
-grows-line w label r line =
+grows-line : (w : Wanted) (file : List ℕ) (r : Report) (line : List ℕ) → Grows r (with_line w file r line)
+grows-line w file r line =
     let n = next r in
-    let answered = with_answer w label n (answer line default_max_depth) in
+    let answered = with_answer w file n line (answer line default_max_depth) in
     let taken : Grows n (cond (is_blank line) n answered) =
-    grows-if (is_blank line) n n answered (grows-none n n refl) (grows-answer w label n (answer line default_max_depth)) in
-    let long : Grows n (with_rejection w label n None) = record { more = rejection_line w label n.number None; all = refl } in
-    grows-then r n _ (grows-none r n refl) (grows-if (nat_lt w.longest (length line)) n (with_rejection w label n None) _ long taken)
+    grows-if (is_blank line) n n answered (grows-none n n refl) (grows-answer w file n line (answer line default_max_depth)) in
+    let long : Grows n (with_rejection w file n line None) = record { more = rejection_line w file n.number line None; all = refl } in
+    grows-then r n _ (grows-none r n refl) (grows-if (nat_lt w.longest (length line)) n (with_rejection w file n line None) _ long taken)
 
-pub rejections-grow : (w : Wanted) (label : List ℕ) (r : Report) (line : List ℕ)
-    → (more : List ℕ) × (r.rejections ++ more ≡ (with_line w label r line).rejections)
-rejections-grow w label r line = let g = grows-line w label r line in (g.more, g.all)
+pub rejections-grow : (w : Wanted) (file : List ℕ) (r : Report) (line : List ℕ)
+    → (more : List ℕ) × (r.rejections ++ more ≡ (with_line w file r line).rejections)
+rejections-grow w file r line = let g = grows-line w file r line in (g.more, g.all)

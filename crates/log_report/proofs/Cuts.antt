@@ -15,7 +15,8 @@ use Rattle.simd_json_parts.specs.Document.{Document, null, boolean, integer, dec
 use Rattle.simd_json_parts.specs.Printed.{compact}
 use Rattle.simd_json_parts.specs.Views.{as_null, as_str}
 use Rattle.simd_json_print.proofs.FlatMaps.{flat_map-more}
-use Rattle.log_report.specs.Rows.{Extends, most_bytes, row_label, row_text, tsv_byte, tsv_escape, tsv_text}
+use Rattle.jsonl.specs.Cells.{tsv_escape}
+use Rattle.log_report.specs.Rows.{Extends, most_bytes, row_label, row_text, tsv_byte, tsv_text}
 use Rattle.log_report.specs.Table.{others}
 use Rattle.log_report.specs.declared.rows.Wanted.{Wanted}
 

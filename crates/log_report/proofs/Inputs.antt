@@ -80,4 +80,4 @@ module _ {R : Type 0} (remaining : R → Option (List ℕ)) where
   read-some [] js (p ∷ parts) had = absurd had
   read-some (i ∷ is) [] (p ∷ parts) had = absurd had
   read-some (i ∷ is) (j ∷ js) (p ∷ parts) had =
-      (record { label = had.0.label; bytes = had.0.bytes; end = λ is. cc }, read-some is js parts had.1)
+      (record { file = had.0.file; bytes = had.0.bytes; end = λ is. cc }, read-some is js parts had.1)

@@ -1,31 +1,22 @@
 -- What is counted of some inputs, and how each rejected line is named.
 use Rattle.std.specs.Prelude.{ℕ, List, [], ◌∷◌, ◌++◌, codes, length, nat_lt, Bool, true, false, Option, None, Some, Result, Ok, Err}
-use Rattle.std.specs.Prelude.{if◌then◌else◌}
+use Rattle.std.specs.Prelude.{◌==◌, if◌then◌else◌}
 use Rattle.std.specs.Fmt.{decimal}
 use Rattle.simd_json_parts.specs.Pieces.{pieces, is_blank}
 use Rattle.simd_json_check.specs.Capacities.{default_max_depth}
 use Rattle.simd_json_parts.specs.Answer.{answer}
 use Rattle.simd_json_parts.specs.Bytes.{line_feed}
 use Rattle.simd_json_parts.specs.Document.{Document}
-use Rattle.simd_json_parts.specs.ErrorKinds.{error_text}
 use Rattle.simd_json_parts.specs.declared.error.Error.{Error}
 use Rattle.jsonl.specs.Lines.{folded}
+use Rattle.jsonl.specs.Rejections.{one_more, rejection_words}
 use Rattle.log_report.specs.Rows.{row_label}
-use Rattle.log_report.specs.Table.{Count, one_more, none_counted, counted, rejected}
+use Rattle.log_report.specs.Table.{Count, none_counted, counted, lines_of, others, rejected}
 use Rattle.log_report.specs.declared.rows.Wanted.{Wanted}
 
--- why it is rejected: for its error, or because it has more than `longest` bytes
-abbrev pub rejection_text : ℕ → Option Error → List ℕ
-rejection_text longest (Some e) = error_text e
-rejection_text longest None = codes "longer than " ++ decimal longest ++ codes " bytes"
-
--- of the line with this number, from 1
-abbrev pub rejection_words : ℕ → ℕ → Option Error → List ℕ
-rejection_words longest number error = codes "line " ++ decimal number ++ codes ": " ++ rejection_text longest error ++ line_feed ∷ []
-
--- after the label of its input
-abbrev pub rejection_line : Wanted → List ℕ → ℕ → Option Error → List ℕ
-rejection_line w label number error = label ++ rejection_words w.longest number error
+-- FILE:LINE:COLUMN: REASON [KIND]
+abbrev pub rejection_line : Wanted → List ℕ → ℕ → List ℕ → Option Error → List ℕ
+rejection_line w file number line error = file ++ rejection_words w.longest number line error
 
 -- how many lines of an input there are so far, whether none was rejected, the counts, and the lines that name rejected ones
 pub record Report : Type 0 where
@@ -41,26 +32,26 @@ abbrev pub next : Report → Report
 next r = record r { number = one_more r.number }
 
 abbrev pub with_text : Wanted → Report → List ℕ → Report
-with_text w r t = record r { counts = counted w.is_tsv 1 t r.counts }
+with_text w r t = record r { counts = counted w.is_tsv w.values 1 t r.counts }
 
-abbrev pub with_rejection : Wanted → List ℕ → Report → Option Error → Report
-with_rejection w label r error =
+abbrev pub with_rejection : Wanted → List ℕ → Report → List ℕ → Option Error → Report
+with_rejection w file r line error =
     record (with_text w r (rejected w.is_tsv))
-    { all_taken = false; rejections = r.rejections ++ rejection_line w label r.number error }
+    { all_taken = false; rejections = r.rejections ++ rejection_line w file r.number line error }
 
 -- by its row
-abbrev pub with_answer : Wanted → List ℕ → Report → Result Document Error → Report
-with_answer w label r (Ok d) = with_text w r (row_label w d)
-with_answer w label r (Err e) = with_rejection w label r (Some e)
+abbrev pub with_answer : Wanted → List ℕ → Report → List ℕ → Result Document Error → Report
+with_answer w file r line (Ok d) = with_text w r (row_label w d)
+with_answer w file r line (Err e) = with_rejection w file r line (Some e)
 
 -- A line is rejected if it is longer than this or no JSON text. One that is empty, or whitespace alone, counts under nothing.
 abbrev pub with_line : Wanted → List ℕ → Report → List ℕ → Report
-with_line w label r line =
-    if nat_lt w.longest (length line) then with_rejection w label (next r) None
+with_line w file r line =
+    if nat_lt w.longest (length line) then with_rejection w file (next r) line None
     else if is_blank line then next r
-    else with_answer w label (next r) (answer line default_max_depth)
+    else with_answer w file (next r) line (answer line default_max_depth)
 
--- an input: its label, and its bytes
+-- an input: the name of its file, and its bytes
 abbrev pub Part : Type 0
 Part = List ℕ × List ℕ
 
@@ -74,3 +65,21 @@ with_parts w r (part ∷ parts) = with_parts w (with_part w r part) parts
 
 abbrev pub report_of : Wanted → List Part → Report
 report_of w parts = with_parts w (no_line w) parts
+
+-- ---- the notice, before the report
+
+abbrev pub notice_words : Wanted → ℕ → List ℕ
+notice_words w n =
+    codes "lines under " ++ others w.is_tsv ++ codes ": " ++ decimal n ++ codes " (--values for more than " ++ decimal w.values
+    ++ codes " values; a row has at most 1024 bytes)" ++ line_feed ∷ []
+
+abbrev pub notice_of : Wanted → ℕ → List ℕ
+notice_of w n = if n == 0 then [] else codes "log_report: " ++ notice_words w n
+
+-- where lines have no count of their own
+abbrev pub notice : Wanted → List Count → List ℕ
+notice w cs = notice_of w (lines_of (others w.is_tsv) cs)
+
+-- what standard error has
+abbrev pub said : Wanted → Report → List ℕ
+said w r = r.rejections ++ notice w r.counts

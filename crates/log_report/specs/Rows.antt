@@ -1,10 +1,11 @@
 -- The row of a line: a column for each selector.
-use Rattle.std.specs.Prelude.{◌≡◌, ℕ, List, [], ◌∷◌, ◌++◌, codes, flat_map, length, take, nat_lt, ◌==◌, if◌then◌else◌}
+use Rattle.std.specs.Prelude.{◌≡◌, ℕ, List, [], ◌∷◌, ◌++◌, flat_map, length, take, nat_lt, ◌==◌, if◌then◌else◌}
 use Rattle.std.specs.Prelude.{Option, None, Some, is_some, unwrap_or}
 use Rattle.std.specs.Borrow.{Bor}
 use Rattle.std.specs.Result.{result_ok}
-use Rattle.simd_json_parts.specs.Bytes.{backslash, carriage_return, line_feed, slash, tab}
-use Rattle.simd_json_parts.specs.Document.{Document, string}
+use Rattle.jsonl.specs.Cells.{cells, raw_text, tsv_escape}
+use Rattle.simd_json_parts.specs.Bytes.{slash, tab}
+use Rattle.simd_json_parts.specs.Document.{Document}
 use Rattle.simd_json_parts.specs.Pointed.{pointed}
 use Rattle.simd_json_parts.specs.Printed.{compact}
 use Rattle.simd_json_parts.specs.Views.{as_null, get}
@@ -16,22 +17,9 @@ abbrev pub selected : List ℕ → Document → Option Document
 selected [] d = get [] d
 selected (c ∷ s) d = if c == slash then result_ok (pointed (c ∷ s) d) else get (c ∷ s) d
 
--- what stands for a byte in tab separated text, if not the byte itself
-abbrev pub tsv_escape : ℕ → Option (List ℕ)
-tsv_escape x =
-    if x == tab then Some (codes "\\t")
-    else if x == line_feed then Some (codes "\\n")
-    else if x == carriage_return then Some (codes "\\r")
-    else if x == backslash then Some (codes "\\\\")
-    else None
-
+-- in tab separated text
 abbrev pub tsv_byte : ℕ → List ℕ
 tsv_byte x = unwrap_or (tsv_escape x) (x ∷ [])
-
--- a string as its text, every other value as compact JSON
-abbrev pub raw_text : Document → List ℕ
-raw_text (string t) = t
-raw_text d = compact d
 
 -- in tab separated text; null is empty
 abbrev pub tsv_text : Document → List ℕ
@@ -41,16 +29,12 @@ abbrev pub cell : Wanted → Option Document → List ℕ
 cell w None = no_value w.is_tsv
 cell w (Some d) = if w.is_tsv then tsv_text d else compact d
 
--- after a tab
-abbrev pub other_cell : Wanted → Document → Bor (List ℕ) → List ℕ
-other_cell w d selector = tab ∷ cell w (selected selector.now d)
-
-abbrev pub cells : Wanted → Document → List (Bor (List ℕ)) → List ℕ
-cells w d [] = []
-cells w d (first ∷ others) = cell w (selected first.now d) ++ flat_map (other_cell w d) others
+-- the value of a selector
+abbrev pub column : Wanted → Document → Bor (List ℕ) → List ℕ
+column w d selector = cell w (selected selector.now d)
 
 abbrev pub row_text : Wanted → Document → List ℕ
-row_text w d = cells w d w.selectors.now
+row_text w d = cells (tab ∷ []) (column w d) w.selectors.now
 
 -- how much of it is kept: one byte more than a row has that counts by itself
 abbrev pub most_bytes : ℕ

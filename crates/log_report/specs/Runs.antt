@@ -10,16 +10,16 @@ use Rattle.simd_json_check.specs.Capacities.{default_max_depth}
 use Rattle.simd_json.specs.Reserved.{IsReserved}
 use Rattle.simd_json_parts.specs.Document.{Document}
 use Rattle.simd_json_parts.specs.declared.error.Error.{Error}
-use Rattle.log_report.specs.Report.{Part, Report, no_line, rejection_line, report_of, with_line, with_part}
+use Rattle.log_report.specs.Report.{Part, Report, no_line, notice, rejection_line, report_of, said, with_line, with_part}
 use Rattle.log_report.specs.Rows.{row_label}
 use Rattle.log_report.specs.Table.{Count, counted, rejected, report_text}
 use Rattle.log_report.specs.declared.lines.Lines.{Lines}
 use Rattle.log_report.specs.declared.rows.Wanted.{Wanted}
 use Rattle.log_report.specs.declared.runs.Input.{Input}
 
--- Of an input before and after a run, of whose reader this is known: it has this label, and these bytes were read, to the end if all were.
+-- Of an input before and after a run, of whose reader this is known: it has this file, and these bytes were read, to the end if all were.
 pub record IsRead {R : Type 0} (remaining : R → Option (List ℕ)) (all : Bool) (i j : Input R) (part : Part) : Type 0 where
-  pub label : part.0 ≡ i.label.now
+  pub file : part.0 ≡ i.file.now
   pub bytes : Consumes (remaining i.reader.inner) (remaining j.reader.inner) part.1
   pub end : all ≡ true → IsAtEnd (remaining j.reader.inner)
 
@@ -39,13 +39,13 @@ has_failed [] = false
 has_failed (i ∷ is) = i.reader.failed || has_failed is
 
 -- Of inputs, a writer of the report and one that names rejected lines, which held and hold these: each input was read to its end,
--- and the report of their lines was written, and their rejected lines were named.
+-- and the report of their lines was written, and their rejected lines were named, with a notice of lines that have no count of their own.
 pub record HasReported {R : Type 0} (remaining : R → Option (List ℕ)) (w : Wanted) (inputs reads : List (Input R))
     (held holds named names : Option (List ℕ)) (result : Result Bool Failure) : Type 0 where
   pub parts : List Part
   pub read : AreDone remaining inputs reads parts
   pub report : Appends held holds (report_text w.is_tsv (report_of w parts).counts)
-  pub rejections : Appends named names (report_of w parts).rejections
+  pub rejections : Appends named names (said w (report_of w parts))
   pub returned : result ≡ Ok (report_of w parts).all_taken
 
 -- Of such a run that ended in this error, and whether the report's writer failed: of what was read, a beginning of the report was
@@ -56,7 +56,7 @@ pub record HasBegun {R : Type 0} (remaining : R → Option (List ℕ)) (w : Want
   pub parts : List Part
   pub read : AreRead remaining false inputs reads parts
   pub report : Begins held holds (report_text w.is_tsv (report_of w parts).counts)
-  pub rejections : Begins named names (report_of w parts).rejections
+  pub rejections : Begins named names (said w (report_of w parts))
   pub unwritten : failed ≡ false → Keeps held holds
   pub end : failed ≡ true → AreDone remaining inputs reads parts
   pub closed : (taken : Bool) → failure ≡ Closed taken → (failed ≡ true) × (taken ≡ (report_of w parts).all_taken)
@@ -85,7 +85,7 @@ counts_of lines = map as_count lines.counts.entries
 
 -- so many lines more count under the text
 pub record CountsMore {A : Type 0} (old new : Lines A) (text : List ℕ) (more : ℕ) : Type 0 where
-  pub counts : counts_of new ≡ counted old.wanted.now.is_tsv more text (counts_of old)
+  pub counts : counts_of new ≡ counted old.wanted.now.is_tsv old.wanted.now.values more text (counts_of old)
   pub same : new ≡ record old { counts = new.counts }
 
 -- one more, by the row of a document
@@ -112,18 +112,28 @@ pub record BeginsReport {A W : Type 0} (written : W → Option (List ℕ)) (line
   pub begun : Begins (written out.inner) (written outs.inner) (report_text lines.wanted.now.is_tsv (counts_of lines))
   pub unwritten : outs.failed ≡ false → Keeps (written out.inner) (written outs.inner)
 
+-- of a writer of what is known: the notice is written
+abbrev pub Notes : {A E : Type 0} → (E → Option (List ℕ)) → Lines A → Watched E → Watched E → Type 0
+Notes naming lines rejections rejects =
+    Appends (naming rejections.inner) (naming rejects.inner) (notice lines.wanted.now (counts_of lines))
+
+-- of a call that fails: a beginning of it is
+abbrev pub BeginsNotice : {A E : Type 0} → (E → Option (List ℕ)) → Lines A → Watched E → Watched E → Type 0
+BeginsNotice naming lines rejections rejects =
+    Begins (naming rejections.inner) (naming rejects.inner) (notice lines.wanted.now (counts_of lines))
+
 -- of a writer of what is known: the last line counts as rejected, and is named
 pub record IsRejection {A E : Type 0} (naming : E → Option (List ℕ)) (old new : Lines A) (rejections rejects : Watched E)
     (error : Option Error) : Type 0 where
-  pub counts : counts_of new ≡ counted old.wanted.now.is_tsv 1 (rejected old.wanted.now.is_tsv) (counts_of old)
+  pub counts : counts_of new ≡ counted old.wanted.now.is_tsv old.wanted.now.values 1 (rejected old.wanted.now.is_tsv) (counts_of old)
   pub same : new ≡ record old { all_taken = false; counts = new.counts }
   pub named : Appends (naming rejections.inner) (naming rejects.inner)
-      (rejection_line old.wanted.now old.label.now old.number error)
+      (rejection_line old.wanted.now old.file.now old.number old.original.items error)
 
 -- Since a writer held these bytes: the counts are those of this report, and the writer holds the lines that name rejected ones, too.
-pub record Shows {A : Type 0} (lines : Lines A) (held holds : Option (List ℕ)) (w : Wanted) (label : List ℕ) (r : Report) : Type 0 where
+pub record Shows {A : Type 0} (lines : Lines A) (held holds : Option (List ℕ)) (w : Wanted) (file : List ℕ) (r : Report) : Type 0 where
   pub by : lines.wanted.now ≡ w
-  pub of : lines.label.now ≡ label
+  pub of : lines.file.now ≡ file
   pub limited : lines.buffers.limit ≡ default_max_depth
   pub reserved : IsReserved lines.wanted.now.longest lines.buffers lines.tape
   pub number : lines.number ≡ r.number
@@ -138,14 +148,14 @@ IsStart w lines = (held : Option (List ℕ)) → Shows lines held held w [] (no_
 -- any report that was shown has become that with this line
 abbrev pub TakesLine : {A E : Type 0} → (E → Option (List ℕ)) → Lines A → Lines A → Watched E → Watched E → List ℕ → Type 0
 TakesLine naming old new rejections rejects line =
-    (held : Option (List ℕ)) (w : Wanted) (label : List ℕ) (r : Report)
-    → Shows old held (naming rejections.inner) w label r → Shows new held (naming rejects.inner) w label (with_line w label r line)
+    (held : Option (List ℕ)) (w : Wanted) (file : List ℕ) (r : Report)
+    → Shows old held (naming rejections.inner) w file r → Shows new held (naming rejects.inner) w file (with_line w file r line)
 
 -- of a call that fails: of any report that was shown, with this line, a beginning of the rejections was written
 abbrev pub BeginsLine : {A E : Type 0} → (E → Option (List ℕ)) → Lines A → Watched E → Watched E → List ℕ → Type 0
 BeginsLine naming old rejections rejects line =
-    (held : Option (List ℕ)) (w : Wanted) (label : List ℕ) (r : Report)
-    → Shows old held (naming rejections.inner) w label r → Begins held (naming rejects.inner) (with_line w label r line).rejections
+    (held : Option (List ℕ)) (w : Wanted) (file : List ℕ) (r : Report)
+    → Shows old held (naming rejections.inner) w file r → Begins held (naming rejects.inner) (with_line w file r line).rejections
 
 -- what a call on a reader and a writer that had not failed ends in, by whether one of them has
 abbrev pub input_fault : Bool → Bool → Failure
@@ -159,19 +169,19 @@ EndsInput reads rejects P Q result = MatchResult result (λ _. (reads ≡ false)
 
 -- the bytes of a reader were read to their end, and any report that was shown has become that with their lines
 pub record TakesInput {A R E : Type 0} (remaining : R → Option (List ℕ)) (naming : E → Option (List ℕ)) (old new : Lines A)
-    (reader reads : Watched R) (rejections rejects : Watched E) (label : List ℕ) : Type 0 where
+    (reader reads : Watched R) (rejections rejects : Watched E) (file : List ℕ) : Type 0 where
   pub input : List ℕ
   pub read : Consumes (remaining reader.inner) (remaining reads.inner) input
   pub end : IsAtEnd (remaining reads.inner)
   pub shown : (held : Option (List ℕ)) (w : Wanted) (last : List ℕ) (r : Report)
       → Shows old held (naming rejections.inner) w last r
-      → Shows new held (naming rejects.inner) w label (with_part w r (label, input))
+      → Shows new held (naming rejects.inner) w file (with_part w r (file, input))
 
 -- of a call that fails: of any report that was shown, with the lines of what was read, a beginning of the rejections was written
 pub record BeginsInput {A R E : Type 0} (remaining : R → Option (List ℕ)) (naming : E → Option (List ℕ)) (old : Lines A)
-    (reader reads : Watched R) (rejections rejects : Watched E) (label : List ℕ) : Type 0 where
+    (reader reads : Watched R) (rejections rejects : Watched E) (file : List ℕ) : Type 0 where
   pub input : List ℕ
   pub read : Consumes (remaining reader.inner) (remaining reads.inner) input
   pub begun : (held : Option (List ℕ)) (w : Wanted) (last : List ℕ) (r : Report)
       → Shows old held (naming rejections.inner) w last r
-      → Begins held (naming rejects.inner) (with_part w r (label, input)).rejections
+      → Begins held (naming rejects.inner) (with_part w r (file, input)).rejections

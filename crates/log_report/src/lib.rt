@@ -11,10 +11,11 @@
 //!     let wanted = Wanted {
 //!         selectors: &["level"],
 //!         is_tsv: false,
+//!         values: 1024,
 //!         longest: 65_536,
 //!     };
 //!     let mut inputs = [Input {
-//!         label: "",
+//!         file: "",
 //!         reader: Channel::new(lines),
 //!     }];
 //!     let mut report = Channel::new(Vec::new(rt.alloc()));

@@ -1,16 +1,17 @@
 //! The lines so far, counted in memory that is reserved at the start.
 ghost use Rattle.std.specs.Prelude.{◌≡◌, IfOk, OnOk, false};
-ghost use Rattle.log_report.specs.Report.{rejection_line, rejection_words};
+ghost use Rattle.log_report.specs.Report.{notice_words, rejection_line};
 ghost use Rattle.jsonl.specs.Failures.{Begins, Ends};
-ghost use Rattle.log_report.specs.Runs.{AddsValue, BeginsInput, BeginsLine, BeginsReport};
-ghost use Rattle.log_report.specs.Runs.{CountsMore, EndsInput, EndsReport, IsRejection, IsStart};
-ghost use Rattle.log_report.specs.Runs.{Prints, TakesInput, TakesLine};
+ghost use Rattle.log_report.specs.Runs.{AddsValue, BeginsInput, BeginsLine, BeginsNotice};
+ghost use Rattle.log_report.specs.Runs.{BeginsReport, CountsMore, EndsInput, EndsReport};
+ghost use Rattle.log_report.specs.Runs.{IsRejection, IsStart, Notes, Prints, TakesInput, TakesLine};
+ghost use Rattle.log_report.specs.Runs.{counts_of};
+ghost use Rattle.log_report.specs.Table.{lines_of, others};
 ghost use Rattle.simd_json.specs.Viewed.{doc};
 
 use crate::rows::{Row, Wanted, append_row};
-use arrayvec::ArrayVec;
 use indexmap::IndexMap;
-use jsonl::{Channel, Failure, Step, put_name};
+use jsonl::{Channel, Failure, Step, Words, put_name, rejection_words};
 use simd_json::tape::Value;
 use simd_json::{Buffers, Error, StaticNode, Tape, refill_tape, reserve};
 use simd_json_parts::charutils::is_blank;
@@ -19,18 +20,17 @@ use std::alloc::{AllocError, Allocator};
 use std::hash::{BuildHasherDefault, FoldHasher};
 use std::io::{self, Read, Write};
 
-// 1,024 rows, and three marks.
-const MOST_TEXTS: usize = 1027;
-
 type Ended = Result<(), Failure>;
 
 /// The lines so far, and the memory for all that follow.
 #[derive(Drop)]
 pub struct Lines<'k, A: Allocator> {
     wanted: &'k Wanted<'k>,
-    label: &'k str,
+    file: &'k str,
     buffers: Buffers<A>,
     tape: Tape<'static, A>,
+    // the line that was read last, as it was before its parse
+    original: Vec<u8, A>,
     number: u64,
     all_taken: bool,
     counts: IndexMap<Vec<u8, A>, u64, BuildHasherDefault<FoldHasher>, A>,
@@ -46,12 +46,13 @@ impl<'k, A: Allocator + Copy> Lines<'k, A> {
         reserve(wanted.longest, &mut buffers, &mut tape)?;
         let mut lines = Lines {
             wanted,
-            label: "",
+            file: "",
             buffers,
             tape,
+            original: Vec::with_capacity(a, wanted.longest)?,
             number: 0,
             all_taken: true,
-            counts: IndexMap::with_capacity(a, MOST_TEXTS)?,
+            counts: IndexMap::with_capacity(a, wanted.most_texts())?,
         };
         lines.add(wanted.no_value(), 0)?;
         lines.add(wanted.others(), 0)?;
@@ -66,11 +67,11 @@ impl<'k, A: Allocator + Copy> Lines<'k, A> {
         self.all_taken
     }
 
-    /// Counts the lines of a reader, with numbers from 1 on and with this label if they are
+    /// Counts the lines of a reader, with numbers from 1 on and with this file's name if they are
     /// rejected. `line` may be overwritten.
     pub fn read<R: Read, E: Write>(
         &mut self,
-        label: &'k str,
+        file: &'k str,
         reader: &mut Channel<R>,
         line: &mut Vec<u8, A>,
         err: &mut Channel<E>,
@@ -79,11 +80,11 @@ impl<'k, A: Allocator + Copy> Lines<'k, A> {
         requires err { err.old.failed ≡ false }
         ensures { EndsInput reader.new.failed err.new.failed
             (TakesInput R.remaining E.contents self.old self.new reader.old reader.new
-            err.old err.new label.now)
+            err.old err.new file.now)
             (BeginsInput R.remaining E.contents self.old reader.old reader.new err.old err.new
-            label.now) result }
+            file.now) result }
     {
-        self.label = label;
+        self.file = file;
         self.number = 0;
         let mut lines = jsonl::Lines::new(self.wanted.longest);
         for _ in 0..u64::MAX {
@@ -109,6 +110,8 @@ impl<'k, A: Allocator + Copy> Lines<'k, A> {
         } else if is_blank(line) {
             return Ok(());
         }
+        self.original.clear();
+        self.original.extend_from_slice(line)?;
         let kept = std::mem::replace(&mut self.tape, Tape::empty(*self.counts.allocator()));
         let (answer, tape) = refill_tape(line, &mut self.buffers, kept);
         match answer {
@@ -124,27 +127,16 @@ impl<'k, A: Allocator + Copy> Lines<'k, A> {
         ensures { Ends err.old err.new
             (IsRejection E.contents self.old self.new err.old err.new error)
             (Begins (E.contents err.old.inner) (E.contents err.new.inner)
-            (rejection_line self.old.wanted.now self.old.label.now self.old.number error)) result }
+            (rejection_line self.old.wanted.now self.old.file.now self.old.number
+            self.old.original.items error)) result }
     {
-        let words = self.rejection(error).map_err(|_| Failure::Resources)?;
-        put_name(err, self.label, words.as_slice())?;
+        let (longest, line) = (self.wanted.longest, self.original.as_slice());
+        let words = rejection_words(longest, self.number, line, error)
+            .map_err(|_| Failure::Resources)?;
+        put_name(err, self.file, words.as_slice())?;
         self.all_taken = false;
         self.add(self.wanted.rejected(), 1)?;
         Ok(())
-    }
-
-    // What follows the label in the name of the last line, if that is rejected.
-    fn rejection(&self, error: Option<Error>) -> io::Result<ArrayVec<u8, 256>>
-        ensures { IfOk result (λ words.
-            words.items ≡ rejection_words self.now.wanted.now.longest self.now.number error) }
-    {
-        let mut words = ArrayVec::<u8, 256>::new();
-        let (number, longest) = (self.number, self.wanted.longest);
-        match error {
-            Some(e) => writeln!(words, "line {number}: {e}")?,
-            None => writeln!(words, "line {number}: longer than {longest} bytes")?,
-        }
-        Ok(words)
     }
 
     // Counts a line by the row of its value, or under `*` if that has more than 1,024 bytes.
@@ -165,13 +157,45 @@ impl<'k, A: Allocator + Copy> Lines<'k, A> {
     {
         if let Some(place) = self.counts.get_index_of(text) {
             self.counts[place] = self.counts[place].saturating_add(more);
-        } else if self.counts.len() < MOST_TEXTS {
+        } else if self.counts.len() < self.wanted.most_texts() {
             let text = Vec::from_slice(*self.counts.allocator(), text)?;
             self.counts.insert(text, more)?;
         } else if let Some(place) = self.counts.get_index_of(self.wanted.others()) {
             self.counts[place] = self.counts[place].saturating_add(more);
         }
         Ok(())
+    }
+
+    /// Says how many lines have no count of their own, if there are any.
+    pub fn note<E: Write>(&self, err: &mut Channel<E>) -> Ended
+        ensures { Ends err.old err.new (Notes E.contents self.now err.old err.new)
+            (BeginsNotice E.contents self.now err.old err.new) result }
+    {
+        let count = self.others();
+        if count == 0 {
+            return Ok(());
+        }
+        let words = self.notice(count).map_err(|_| Failure::Resources)?;
+        put_name(err, "log_report: ", words.as_slice())
+    }
+
+    // How many lines have no count of their own.
+    fn others(&self) -> u64
+        ensures { result ≡ lines_of (others self.now.wanted.now.is_tsv) (counts_of self.now) }
+    {
+        match self.counts.get_index_of(self.wanted.others()) {
+            Some(place) => self.counts[place],
+            None => 0,
+        }
+    }
+
+    fn notice(&self, count: u64) -> io::Result<Words>
+        ensures { IfOk result (λ words. words.items ≡ notice_words self.now.wanted.now count) }
+    {
+        let (mark, values) = (self.wanted.others_mark(), self.wanted.values);
+        let mut words = Words::new();
+        writeln!(words, "lines under {mark}: {count} (--values for more than {values} values; a row has at most 1024 bytes)")?;
+        Ok(words)
     }
 
     /// Writes a line for each text under which lines count, the greatest count first.

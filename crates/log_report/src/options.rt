@@ -1,7 +1,7 @@
 //! What the program's arguments ask for.
 use crate::rows::Wanted;
 use clap::{Arg, ArgAction, Command, Error, value_parser};
-use std::alloc::{AllocError, Global};
+use std::alloc::Global;
 
 const STANDARD_INPUT: &str = "-";
 
@@ -12,6 +12,9 @@ const AND_HELP: &str = "A further value that they count by, in a column of its o
 
 const TSV_HELP: &str = "Print tab separated text, with escapes as jq's @tsv";
 
+const VALUES_HELP: &str =
+    "How many values have a count of their own; each takes 2 KB of memory [default: 1024]";
+
 const FILES_HELP: &str = "Files to read; standard input where there is none, or for -";
 
 const LONGEST_HELP: &str = "How many bytes a line may have [default: 65536]";
@@ -21,9 +24,9 @@ const LONGEST_HELP: &str = "How many bytes a line may have [default: 65536]";
 pub struct Options<'a> {
     selectors: Vec<&'a str>,
     is_tsv: bool,
+    values: u32,
     longest: usize,
     files: Vec<&'a str>,
-    are_named: bool,
 }
 
 impl<'a> Options<'a> {
@@ -32,6 +35,7 @@ impl<'a> Options<'a> {
         Wanted {
             selectors: self.selectors.as_slice(),
             is_tsv: self.is_tsv,
+            values: self.values,
             longest: self.longest,
         }
     }
@@ -39,20 +43,6 @@ impl<'a> Options<'a> {
     /// The names of the files, of which there is at least one.
     pub fn files(&self) -> &[&'a str] {
         self.files.as_slice()
-    }
-
-    /// What the names of each file's rejected lines begin with: its own, if the arguments have it.
-    pub fn labels(&self, alloc: Global) -> Result<Vec<String>, AllocError> {
-        let mut labels = Vec::new(alloc);
-        for file in &self.files {
-            let mut label = String::new(alloc);
-            if self.are_named {
-                label.push_str(*file)?;
-                label.push_str(": ")?;
-            }
-            labels.push(label)?;
-        }
-        Ok(labels)
     }
 }
 
@@ -64,8 +54,7 @@ pub fn asked<'a>(alloc: Global, words: &'a [String]) -> Result<Options<'a>, Erro
     selectors.push(matches.get_str("selector").unwrap_or(""))?;
     selectors.extend_from_slice(matches.get_strs("and").unwrap_or_default())?;
     let mut files = Vec::new(alloc);
-    let named = matches.get_strs("file");
-    match named {
+    match matches.get_strs("file") {
         Some(names) => files.extend_from_slice(names)?,
         None => files.push(STANDARD_INPUT)?,
     }
@@ -73,9 +62,9 @@ pub fn asked<'a>(alloc: Global, words: &'a [String]) -> Result<Options<'a>, Erro
     Ok(Options {
         selectors,
         is_tsv: matches.get_flag("tsv"),
+        values: matches.get_one::<u32>("values").unwrap_or(1024),
         longest: longest as usize,
         files,
-        are_named: named.is_some(),
     })
 }
 
@@ -85,6 +74,11 @@ fn command<'a>(alloc: Global) -> Result<Command<'a>, Error> {
         .value_name("BYTES")
         .value_parser(value_parser!(u32))
         .help(LONGEST_HELP);
+    let values = Arg::new(alloc, "values")
+        .long("values")
+        .value_name("N")
+        .value_parser(value_parser!(u32))
+        .help(VALUES_HELP);
     let and = Arg::new(alloc, "and")
         .long("and")
         .value_name("KEY|POINTER")
@@ -111,6 +105,7 @@ fn command<'a>(alloc: Global) -> Result<Command<'a>, Error> {
             .arg(and)?
             .arg(tsv)?
             .arg(longest)?
+            .arg(values)?
             .arg(selector)?
             .arg(files)?,
     )

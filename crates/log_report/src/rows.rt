@@ -1,12 +1,15 @@
 //! The row of a line: a column for each value that lines count by.
-ghost use Rattle.std.specs.Prelude.{◌≡◌, OnOk, flat_map, option_map};
+ghost use Rattle.std.specs.Prelude.{◌≡◌, ◌∷◌, [], OnOk, flat_map, option_map};
+ghost use Rattle.jsonl.specs.Cells.{after_mark};
 ghost use Rattle.simd_json.specs.Viewed.{doc};
+ghost use Rattle.simd_json_parts.specs.Bytes.{tab};
 ghost use Rattle.simd_json_parts.specs.Printed.{compact};
-ghost use Rattle.log_report.specs.Rows.{Extends, cell, other_cell, row_text, selected, tsv_byte};
-ghost use Rattle.log_report.specs.Rows.{tsv_escape, tsv_text};
-ghost use Rattle.log_report.specs.Table.{no_value, others, rejected, separator};
+ghost use Rattle.log_report.specs.Rows.{Extends, cell, column, row_text, selected, tsv_byte};
+ghost use Rattle.log_report.specs.Rows.{tsv_text};
+ghost use Rattle.log_report.specs.Table.{most_texts, no_value, others, rejected, separator};
 
 use arrayvec::ArrayVec;
+use jsonl::tsv_escape;
 use simd_json::tape::Value;
 use std::alloc::AllocError;
 use std::io::Write;
@@ -21,6 +24,8 @@ pub struct Wanted<'a> {
     pub selectors: &'a [&'a str],
     /// Whether rows are tab separated text, and not compact JSON between tabs.
     pub is_tsv: bool,
+    /// How many rows have a count of their own.
+    pub values: u32,
     /// How many bytes a line may have.
     pub longest: usize,
 }
@@ -39,7 +44,14 @@ impl Wanted<'_> {
     pub(crate) fn others(&self) -> &'static [u8]
         ensures { result.now ≡ others self.now.is_tsv }
     {
-        if self.is_tsv { b"\\*" } else { b"*" }
+        self.others_mark().as_bytes()
+    }
+
+    // The same as text.
+    pub(crate) fn others_mark(&self) -> &'static str
+        ensures { result.now ≡ others self.now.is_tsv }
+    {
+        if self.is_tsv { "\\*" } else { "*" }
     }
 
     // The row of rejected lines.
@@ -47,6 +59,13 @@ impl Wanted<'_> {
         ensures { result.now ≡ rejected self.now.is_tsv }
     {
         if self.is_tsv { b"\\!" } else { b"!" }
+    }
+
+    // How many rows there are at most: those that have a count of their own, and three marks.
+    pub(crate) fn most_texts(&self) -> usize
+        ensures { result ≡ most_texts self.now.values }
+    {
+        self.values as usize + 3
     }
 
     // What is between a count and its row.
@@ -83,7 +102,7 @@ fn append_others(
     selectors: &[&str],
 ) -> Result<(), AllocError>
     ensures { OnOk result (Extends row.old.items row.new.items
-        (flat_map (other_cell wanted.now (doc value.entry)) selectors.now)) }
+        (flat_map (after_mark (tab ∷ []) (column wanted.now (doc value.entry))) selectors.now)) }
 {
     for selector in selectors {
         append(row, b"\t");
@@ -153,19 +172,6 @@ fn append_escaped(row: &mut Row, text: &[u8])
 {
     for byte in text {
         append(row, tsv_escape(*byte).unwrap_or(&[*byte]));
-    }
-}
-
-// What stands for a byte in tab separated text, if not the byte itself.
-fn tsv_escape(byte: u8) -> Option<&'static [u8]>
-    ensures { option_map (λ escape. escape.now) result ≡ tsv_escape byte }
-{
-    match byte {
-        b'\t' => Some(b"\\t"),
-        b'\n' => Some(b"\\n"),
-        b'\r' => Some(b"\\r"),
-        b'\\' => Some(b"\\\\"),
-        _ => None,
     }
 }
 

@@ -3,7 +3,10 @@
 //! what it prints. The library `log_report` counts; here are files and the status.
 #![tactic(auto)]
 
+mod lenient;
+
 use jsonl::{Channel, Source, arguments, ending, help_status};
+use lenient::Lenient;
 use log_report::{Input, Options, asked, run};
 use std::alloc::AllocError;
 use std::io;
@@ -37,15 +40,16 @@ fn program(rt: &HostRuntime, words: &[String]) -> u8 {
     }
 }
 
-// Writes the report, and on standard error why there is none. Returns an error if an allocation
-// fails before.
+// Writes the report of the files that can be read, and prints on standard error why others can't.
+// Returns an error if an allocation fails before.
 fn report(rt: &HostRuntime, options: &Options<'_>) -> Result<u8, AllocError> {
-    let labels = options.labels(rt.alloc())?;
     let mut inputs = Vec::new(rt.alloc());
-    for (file, label) in options.files().iter().zip(labels.iter()) {
-        let reader = Channel::new(Source::new(rt, rt.reader(), *file));
-        let label = label.as_str();
-        inputs.push(Input { label, reader })?;
+    for file in options.files() {
+        let reader = Channel::new(Lenient::new(Source::new(rt, rt.reader(), *file)));
+        inputs.push(Input {
+            file: *file,
+            reader,
+        })?;
     }
     let (mut out, mut err) = (Channel::new(io::writer(rt)), Channel::new(rt.stderr()));
     let counted = run(
@@ -55,12 +59,13 @@ fn report(rt: &HostRuntime, options: &Options<'_>) -> Result<u8, AllocError> {
         &mut out,
         &mut err,
     );
+    let (mut status, line) = ending(&counted);
     for input in inputs {
-        if let Some((file, e)) = input.reader.into_inner().fault() {
+        if let Some((file, e)) = input.reader.into_inner().reader.fault() {
             let _ = eprintln!(rt; "log_report: {file}: {e}");
+            status = 3;
         }
     }
-    let (status, line) = ending(&counted);
     if let Some(line) = line {
         let _ = eprintln!(rt; "log_report: {line}");
     }

@@ -5,7 +5,7 @@ use jcheck::{Ended, Failure, Style, check_each, is_colored};
 use std::env::VarError;
 use std::io::{self, ErrorKind};
 
-const REJECTED: [(&[u8], &[Report]); 15] = [
+const REJECTED: [(&[u8], &[Report]); 22] = [
     (b"[1,[2]]\n", &[]),
     (
         b"[1,\n  2 3]\n",
@@ -39,7 +39,80 @@ const REJECTED: [(&[u8], &[Report]); 15] = [
             "expected `null`",
             "ExpectedNull at byte 14",
             "[\"\u{e9}\u{20ac}\u{1f600}\", nul]",
+            "         ^",
+        ]],
+    ),
+    // wide characters take two columns each
+    (
+        b"[\"\xe5\x90\x8d\xe5\x89\x8d\",x]",
+        &[[
+            "f:1:7",
+            VALUE,
+            "InternalError at byte 10",
+            "[\"\u{540d}\u{524d}\",x]",
             "        ^",
+        ]],
+    ),
+    // byte order marks are shown
+    (
+        b"\xef\xbb\xbf{}",
+        &[[
+            "f:1:1",
+            "byte order mark",
+            "InternalError at byte 0",
+            "<U+FEFF>{}",
+            "^",
+        ]],
+    ),
+    (
+        b"[\xef\xbb\xbf]",
+        &[[
+            "f:1:2",
+            "expected a value, found byte 239",
+            "InternalError at byte 1",
+            "[<U+FEFF>]",
+            " ^",
+        ]],
+    ),
+    // what is open, and where it begins
+    (
+        b"{\"a\": \"b,\n \"c\": 1}",
+        &[[
+            "f:1:10",
+            "a line feed in the string that begins at 1:7",
+            "Syntax at byte 9",
+            "{\"a\": \"b,",
+            "         ^",
+        ]],
+    ),
+    (
+        b"[\"\x1f\"]",
+        &[[
+            "f:1:3",
+            "control character 31 in the string that begins at 1:2",
+            "Syntax at byte 2",
+            "[\" \"]",
+            "  ^",
+        ]],
+    ),
+    (
+        b"[[1],\n {\"a\":{}, \"b\": [[], 2],\n\"]\":",
+        &[[
+            "f:3:4",
+            "the input ends after this, within the object that begins at 2:2",
+            "Syntax at byte 33",
+            "\"]\":",
+            "   ^",
+        ]],
+    ),
+    (
+        b"[1,2",
+        &[[
+            "f:1:4",
+            "the input ends after this, within the array that begins at 1:1",
+            "Syntax at byte 3",
+            "[1,2",
+            "   ^",
         ]],
     ),
     (

@@ -9,15 +9,15 @@ returns-then-is_full g c =
     let old = c.args.self.now in
     let row = c.append_row.new.row.items in
     let is = row-is _ row _ c.new-row.ensures c.is_full.ensures.fits c.in_ok-append_row.ensures in
-    let label = c.others.ensures ∙ label-full old.wanted.now (doc c.args.value) row is
+    let file = c.others.ensures ∙ label-full old.wanted.now (doc c.args.value) row is
     (eqb-true _ _ (sym c.is_full.ensures.value ∙ c.if-is_full.true)) in
-    on-ok c.add.result _ _ (λ added. subst (λ text. CountsMore old c.add.new.self text 1) label added) c.add.ensures
+    on-ok c.add.result _ _ (λ added. subst (λ text. CountsMore old c.add.new.self text 1) file added) c.add.ensures
 
 pub returns : goal.returns
 returns g c =
     let old = c.args.self.now in
     let row = c.append_row.new.row.items in
     let is = row-is _ row _ c.new-row.ensures c.is_full.ensures.fits c.in_ok-append_row.ensures in
-    let label = c.as_slice.ensures.value ∙ label-short old.wanted.now (doc c.args.value) row is c.is_full.ensures.fits
+    let file = c.as_slice.ensures.value ∙ label-short old.wanted.now (doc c.args.value) row is c.is_full.ensures.fits
     (sym c.is_full.ensures.value ∙ c.if-is_full.false) in
-    on-ok c.add-2.result _ _ (λ added. subst (λ text. CountsMore old c.add-2.new.self text 1) label added) c.add-2.ensures
+    on-ok c.add-2.result _ _ (λ added. subst (λ text. CountsMore old c.add-2.new.self text 1) file added) c.add-2.ensures

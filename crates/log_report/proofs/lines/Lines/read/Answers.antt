@@ -38,14 +38,14 @@ loop-preserved g c =
     let old = c.args.self.now in
     let first = c.args.reader.now in
     let names = c.args.err.now in
-    let label = c.args.label.now in
+    let file = c.args.file.now in
     elim c.match-branch-2.branch [
       | in-Line+in_ok-count-in-Line v ↦
           let counted = v.in_ok-count-in-Line.ensures c.loop.invariant.err in
           rw (v.self-is, v.line-is, v.err-is) (record {
             reader = c.in_ok-next.ensures.0;
             err = counted.0;
-            counted = line-taken g.R.Read.remaining g.E.Write.contents old c.loop.self first c.loop.reader names c.loop.err label
+            counted = line-taken g.R.Read.remaining g.E.Write.contents old c.loop.self first c.loop.reader names c.loop.err file
                 c.loop.lines c.loop.line.items v.count.new.self c.next.new.self c.next.new.line.items _ c.next.new.reader v.count.new.err at
                 (subst (Moves c.loop.lines c.next.new.self c.loop.line.items c.next.new.line.items (g.R.Read.remaining c.loop.reader.inner)
                 (g.R.Read.remaining c.next.new.reader.inner)) v.in-Line.is c.in_ok-next.ensures.1)
@@ -56,7 +56,7 @@ loop-preserved g c =
           rw (v.self-is, v.line-is, v.err-is) (record {
             reader = c.in_ok-next.ensures.0;
             err = c.loop.invariant.err;
-            counted = block-at g.R.Read.remaining g.E.Write.contents old c.loop.self first c.loop.reader names c.loop.err label
+            counted = block-at g.R.Read.remaining g.E.Write.contents old c.loop.self first c.loop.reader names c.loop.err file
                 c.loop.lines c.loop.line.items c.next.new.self c.next.new.line.items c.next.new.reader at
                 (subst (Moves c.loop.lines c.next.new.self c.loop.line.items c.next.new.line.items (g.R.Read.remaining c.loop.reader.inner)
                 (g.R.Read.remaining c.next.new.reader.inner)) v.in-Block.is c.in_ok-next.ensures.1);
@@ -69,7 +69,7 @@ returns-in_err-next g c =
     input-handed-on c.from_residual.result _ _ _ _ _ c.from_residual.ensures.1
     (λ e is. is ∙ read-fault _ _ _ c.loop.invariant.err failed.0) (λ is. c.loop.invariant.err)
     (reading-begun g.R.Read.remaining g.E.Write.contents c.args.self.now c.loop.self c.args.reader.now c.loop.reader c.args.err.now
-    c.loop.err c.args.label.now c.loop.lines c.loop.line.items c.next.new.reader c.loop.invariant.counted (failed.1, failed.2))
+    c.loop.err c.args.file.now c.loop.lines c.loop.line.items c.next.new.reader c.loop.invariant.counted (failed.1, failed.2))
 
 pub returns-in_err-count-in-Line : goal.returns-in_err-count-in-Line
 returns-in_err-count-in-Line g c =
@@ -78,7 +78,7 @@ returns-in_err-count-in-Line g c =
     input-handed-on c.from_residual-in_err-count-in-Line.result _ _ _ _ _ c.from_residual-in_err-count-in-Line.ensures.1
     (λ e is. is ∙ failed.0 ∙ ap (λ b. input_fault b c.count.new.err.failed) (sym none)) (λ is. cc)
     (line-begun g.R.Read.remaining g.E.Write.contents c.args.self.now c.loop.self c.args.reader.now c.loop.reader c.args.err.now
-    c.loop.err c.args.label.now c.loop.lines c.loop.line.items c.next.new.self c.next.new.line.items c.next.new.reader c.count.new.err
+    c.loop.err c.args.file.now c.loop.lines c.loop.line.items c.next.new.self c.next.new.line.items c.next.new.reader c.count.new.err
     c.loop.invariant.counted
     (subst (Moves c.loop.lines c.next.new.self c.loop.line.items c.next.new.line.items (g.R.Read.remaining c.loop.reader.inner)
     (g.R.Read.remaining c.next.new.reader.inner)) c.in-Line.is c.in_ok-next.ensures.1)
@@ -91,12 +91,12 @@ returns-in-End g c =
     (g.R.Read.remaining c.next.new.reader.inner)) c.in-End.is c.in_ok-next.ensures.1 in
     input-named c.count-in-End.result _ _ _ _ _ _ c.in_ok-next.ensures.0
     (λ taken. end-taken g.R.Read.remaining g.E.Write.contents c.args.self.now c.loop.self c.args.reader.now c.loop.reader c.args.err.now
-    c.loop.err c.args.label.now c.loop.lines c.loop.line.items c.count-in-End.new.self c.next.new.self c.next.new.line.items
+    c.loop.err c.args.file.now c.loop.lines c.loop.line.items c.count-in-End.new.self c.next.new.self c.next.new.line.items
     c.next.new.reader c.count-in-End.new.err at moves
     (subst (TakesLine g.E.Write.contents c.loop.self c.count-in-End.new.self c.loop.err c.count-in-End.new.err)
     c.as_mut_slice-in-End.ensures.value taken))
     (λ begun. end-begun g.R.Read.remaining g.E.Write.contents c.args.self.now c.loop.self c.args.reader.now c.loop.reader c.args.err.now
-    c.loop.err c.args.label.now c.loop.lines c.loop.line.items c.next.new.self c.next.new.line.items c.next.new.reader
+    c.loop.err c.args.file.now c.loop.lines c.loop.line.items c.next.new.self c.next.new.line.items c.next.new.reader
     c.count-in-End.new.err at moves
     (subst (BeginsLine g.E.Write.contents c.loop.self c.loop.err c.count-in-End.new.err) c.as_mut_slice-in-End.ensures.value begun))
     (c.count-in-End.ensures c.loop.invariant.err)
@@ -106,5 +106,5 @@ returns g c = (
   ap name_fault (sym c.loop.invariant.err) ∙ ap (λ b. input_fault b c.loop.err.failed) (sym c.loop.invariant.reader),
   λ is. c.loop.invariant.err,
   reading-begun g.R.Read.remaining g.E.Write.contents c.args.self.now c.loop.self c.args.reader.now c.loop.reader c.args.err.now
-      c.loop.err c.args.label.now c.loop.lines c.loop.line.items c.loop.reader c.loop.invariant.counted ([], Consumes-nil _),
+      c.loop.err c.args.file.now c.loop.lines c.loop.line.items c.loop.reader c.loop.invariant.counted ([], Consumes-nil _),
 )

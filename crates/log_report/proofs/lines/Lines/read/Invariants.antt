@@ -7,5 +7,5 @@ invariant-loop g l = record {
   reader : l.reader.failed ≡ false;
   err : l.err.failed ≡ false;
   counted : IsAt g.E.Write.contents l.fn.self l.self l.lines l.line.items (g.R.Read.remaining l.fn.reader.inner)
-      (g.R.Read.remaining l.reader.inner) l.fn.err l.err l.label;
+      (g.R.Read.remaining l.reader.inner) l.fn.err l.err l.file;
 }
