@@ -8,3 +8,4 @@ pub mod MapCompared
 pub mod Printable
 pub mod Encoded
 pub mod Ends
+pub mod Leading

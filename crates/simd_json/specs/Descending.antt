@@ -16,9 +16,9 @@ use Rattle.simd_json.specs.declared.value.tape.descendants.Row.{Row}
 abbrev pub in_row : Row → Elements
 in_row r = elements_of (map item_of r.nodes.now)
 
-abbrev pub joined : Elements → Elements → Elements
-joined no_elements es = es
-joined (element d ds) es = element d (joined ds es)
+abbrev pub elements_joined : Elements → Elements → Elements
+elements_joined no_elements es = es
+elements_joined (element d ds) es = element d (elements_joined ds es)
 
 -- pairs as the documents that their nodes list
 abbrev pub flat : Members → Elements → Elements
@@ -26,11 +26,11 @@ flat no_members es = es
 flat (member k d ms) es = element (string k) (element d (flat ms es))
 
 -- what the first one has in it, then the others
-abbrev pub entered : Elements → Elements
-entered no_elements = no_elements
-entered (element (array es) ds) = joined es ds
-entered (element (object ms) ds) = flat ms ds
-entered (element d ds) = ds
+abbrev pub unpacked : Elements → Elements
+unpacked no_elements = no_elements
+unpacked (element (array es) ds) = elements_joined es ds
+unpacked (element (object ms) ds) = flat ms ds
+unpacked (element d ds) = ds
 
 -- the values of so many members, of an object or of an array, and the documents after these members
 abbrev pub inside : Bool → ℕ → Elements → List Document
@@ -44,18 +44,18 @@ outside false n ds = other_elements n ds
 -- ---- what is left
 
 -- of the members of the first of these containers at most so many levels, of each next one a level more
-abbrev pub left_in : ℕ → List Level → Elements → List Document
-left_in n [] ds = flat_map (beneath n) (elements ds)
-left_in n (l ∷ ls) ds = flat_map (beneath n) (inside l.is_object l.left ds) ++ left_in (suc n) ls (outside l.is_object l.left ds)
+abbrev pub left_by : ℕ → List Level → Elements → List Document
+left_by n [] ds = flat_map (beneath n) (elements ds)
+left_by n (l ∷ ls) ds = flat_map (beneath n) (inside l.is_object l.left ds) ++ left_by (suc n) ls (outside l.is_object l.left ds)
 
 -- where the row begins with a member that is counted no more
 abbrev pub left_with : ℕ → List Level → Elements → List Document
 left_with n ls no_elements = []
-left_with n ls (element d ds) = beneath n d ++ left_in n ls ds
+left_with n ls (element d ds) = beneath n d ++ left_by n ls ds
 
 module _ {DEPTH : ℕ} where
   abbrev pub left_open : Levels DEPTH → Elements → List Document
-  left_open l ds = left_in l.innermost (drop l.innermost l.all) ds
+  left_open l ds = left_by l.innermost (drop l.innermost l.all) ds
 
   abbrev pub left_begun : Levels DEPTH → Elements → List Document
   left_begun l ds = left_with l.innermost (drop l.innermost l.all) ds

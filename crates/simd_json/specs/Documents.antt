@@ -82,11 +82,11 @@ members_of ns = in_pairs (elements_of ns)
 abbrev pub IsListing : List Item → Type 0
 IsListing ns = listing (document_of ns) ≡ ns
 
-abbrev pub AreElements : List Item → Type 0
-AreElements ns = elements_listing (elements_of ns) ≡ ns
+abbrev pub AreElementNodes : List Item → Type 0
+AreElementNodes ns = elements_listing (elements_of ns) ≡ ns
 
-abbrev pub AreMembers : List Item → Type 0
-AreMembers ns = members_listing (members_of ns) ≡ ns
+abbrev pub AreMemberNodes : List Item → Type 0
+AreMemberNodes ns = members_listing (members_of ns) ≡ ns
 
 -- the document is a scalar that the node says whole, or an array or an object where the node is its header
 abbrev pub IsFirst : Item → Document → Type 0

@@ -8,7 +8,8 @@ use Rattle.std.proofs.lemmas.List.Sums.{sum_by-append, count_by-le-length}
 use Rattle.std.proofs.lemmas.Nat.{pow_pos, pow-add, ones-le}
 use Rattle.std.proofs.lemmas.Simd.{ones-mask_l}
 use lib.Lanes.{mask_l}
-use Rattle.simd_json_ondemand.specs.Closing.{is_opening, is_closing, closed_at, open_through}
+use Rattle.simd_json_ondemand.specs.Closing.{closed_at, open_through}
+use Rattle.simd_json_parts.specs.Bytes.{is_closing, is_opening}
 use Rattle.simd_json_ondemand.proofs.Counting.{IsOpen, open-counts, stays-open, open_through-append, open_through-closing}
 use Rattle.simd_json_ondemand.proofs.Counting.{open_through-none, closed_at-append, closed_at-closing, closed_at-none, count-step}
 use Rattle.simd_json_ondemand.proofs.LowestBits.{word, cleared, before}

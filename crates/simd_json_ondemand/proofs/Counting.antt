@@ -13,8 +13,8 @@ use lib.Lanes.{mask_l}
 use mir.Val.{bool_byte}
 use Rattle.simd_json_ondemand.proofs.Groups.{test_opening, test_closing}
 use Rattle.std.proofs.Math.Seq.{drop-cons}
-use Rattle.simd_json_parts.specs.Bytes.{byte_at}
-use Rattle.simd_json_ondemand.specs.Closing.{is_opening, is_closing, open_after, closed_at, open_through, first_bytes, span, AreWithin}
+use Rattle.simd_json_parts.specs.Bytes.{byte_at, is_closing, is_opening}
+use Rattle.simd_json_ondemand.specs.Closing.{open_after, closed_at, open_through, first_bytes, span, AreWithin}
 
 -- no byte is both
 pub closing-opens_not : (c : ℕ) → is_closing c ≡ true → is_opening c ≡ false

@@ -5,9 +5,9 @@ use Rattle.std.proofs.lemmas.List.{get_or_default}
 use Rattle.std.proofs.lemmas.Simd.{bitmask_splat, zip2_splat, length-zip2, map-map}
 use Rattle.std.proofs.Math.Seq.{drop-cons}
 use lib.Lanes.{zip2, mask_l, top, Each1}
-use Rattle.simd_json_parts.specs.Bytes.{byte_at}
+use Rattle.simd_json_parts.specs.Bytes.{byte_at, is_closing, is_opening}
 use Rattle.simd_json_stages.proofs.Scan.Bits.Computed.{upto_sound, same, same_is}
-use Rattle.simd_json_ondemand.specs.Closing.{is_opening, is_closing, first_bytes, AreWithin}
+use Rattle.simd_json_ondemand.specs.Closing.{first_bytes, AreWithin}
 
 pub test_opening : (x : ℕ) → x < 256 → eqb (bit_or x 32) 123 ≡ is_opening x
 test_opening x l = same_is _ _ (upto_sound (λ y. same (eqb (bit_or y 32) 123) (is_opening y)) 256 tt x l)

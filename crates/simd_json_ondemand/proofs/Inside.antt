@@ -2,13 +2,13 @@
 use Rattle.std.proofs.Common.{◌≡◌, ◌≢◌, refl, sym, ◌∙◌, ap, subst, ℕ, suc, ◌+◌, ◌<◌, List, ◌∷◌, length, drop, get_or, true, cond, arith}
 use Rattle.std.specs.Prelude.{Some, Result, Ok, Err}
 use Rattle.std.proofs.lemmas.List.{length-drop, drop_more, get_or-drop, drop-drop}
-use Rattle.simd_json_parts.specs.Bytes.{byte_at}
+use Rattle.simd_json_parts.specs.Bytes.{byte_at, is_opening}
 use Rattle.simd_json_parts.specs.Document as parts
 use Rattle.simd_json_parts.specs.Tokens.{Token}
 use Rattle.simd_json_parts.specs.TokensAlong.{tokens_along}
 use Rattle.simd_json_parts.specs.declared.error.Error.{Error}
 use Rattle.simd_json_ondemand.specs.Docs.{text, places}
-use Rattle.simd_json_ondemand.specs.Closing.{is_opening, closed_at, first_bytes, open_after, span}
+use Rattle.simd_json_ondemand.specs.Closing.{closed_at, first_bytes, open_after, span}
 use Rattle.simd_json_ondemand.specs.Remaining.{value_at_first, elements_inside, elements_behind, elements_past}
 use Rattle.simd_json_ondemand.specs.Remaining.{members_inside, members_behind, members_past}
 use Rattle.simd_json_ondemand.specs.Viewed.{first_read, read_along}

@@ -23,4 +23,5 @@ pub mod WalkViews
 pub mod Told
 pub mod Pointers
 pub mod Sites
+pub mod Leading
 pub mod Fractions

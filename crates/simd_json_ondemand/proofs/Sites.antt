@@ -11,7 +11,7 @@ use Rattle.simd_json_parts.specs.Document.{Document, elements, array, members, o
 use Rattle.simd_json_parts.specs.Followed.{IsPlain, IsTokenAt, fits_64, tokens_after}
 use Rattle.simd_json_parts.specs.Pointed.{array_index, member_at, named, unescaped}
 use Rattle.simd_json_parts.specs.Views as views
-use Rattle.simd_json_parts.specs.Views.{as_str, is_array, is_object}
+use Rattle.simd_json_parts.specs.Views.{as_str, is_array, is_object, ok_map}
 use Rattle.simd_json_parts.specs.declared.pointer.PointerExpected.TheVariants as lacking
 use Rattle.simd_json_parts.proofs.Pointers.Keys.{plain-head}
 use Rattle.simd_json_parts.proofs.Pointers.Pointed.{at-slash, begins-at, ok-or}
@@ -20,13 +20,13 @@ use Rattle.simd_json_ondemand.specs.Iterated.{all_some}
 use Rattle.simd_json_ondemand.specs.IteratedMembers.{all_members}
 use Rattle.simd_json_ondemand.specs.Keys.{is_key}
 use Rattle.simd_json_ondemand.specs.Reached.{Reached, walk_to, element_reached, key_reached, member_reached, named_at}
-use Rattle.simd_json_ondemand.specs.Reached.{go_on, followed_at, pointed_at}
+use Rattle.simd_json_ondemand.specs.Reached.{reach_further, followed_at, pointed_at}
 use Rattle.simd_json_ondemand.specs.Sites.{Site, site, doc_at, element_site, pair_sites, array_sites, object_sites}
 use Rattle.simd_json_ondemand.specs.Standing.{opens_array, opens_object}
 use Rattle.simd_json_ondemand.specs.Stopped.{error_at, told}
 use Rattle.simd_json_ondemand.specs.Unexpected.{unexpected}
-use Rattle.simd_json_ondemand.specs.Walked.{array_walk, object_walk, unexpected_here, first_with}
-use Rattle.simd_json_ondemand.specs.Walks.{Walk, stopped, ended, came, found, whole, first, walk_past, walk_from, walk_by, ok_map}
+use Rattle.simd_json_ondemand.specs.Walked.{array_walk, object_walk, unexpected_here, member_with}
+use Rattle.simd_json_ondemand.specs.Walks.{Walk, stopped, ended, came, found, whole, first, walk_past, walk_from, walk_by}
 use Rattle.simd_json_ondemand.specs.Walks.{elements_seen, members_seen}
 use Rattle.simd_json_ondemand.specs.declared.array.Position.TheVariants.{First}
 use Rattle.simd_json_ondemand.specs.declared.unexpected.Expected.TheVariants.{Container}
@@ -175,14 +175,14 @@ abbrev pair_doc_at : Site × Site → Option Document × Option Document
 pair_doc_at m = (doc_at m.0, doc_at m.1)
 
 map-to : (key : List ℕ) (w : Sites)
-    → ok_map (option_map doc_at) (ok_map (option_map (λ m. m.1)) (first (walk_to key w))) ≡ first_with key (walk_map pair_doc_at w)
+    → ok_map (option_map doc_at) (ok_map (option_map (λ m. m.1)) (first (walk_to key w))) ≡ member_with key (walk_map pair_doc_at w)
 unfolding walk_to walk_from walk_map
 map-to key (stopped e) = refl
 map-to key ended = refl
 map-to key (came m w) = go (is_key key (option_and_then as_str (doc_at m.0))) (map-to key w)
   where
     go : (t : Bool)
-        → ok_map (option_map doc_at) (ok_map (option_map (λ m. m.1)) (first (walk_to key w))) ≡ first_with key (walk_map pair_doc_at w)
+        → ok_map (option_map doc_at) (ok_map (option_map (λ m. m.1)) (first (walk_to key w))) ≡ member_with key (walk_map pair_doc_at w)
         → ok_map (option_map doc_at) (ok_map (option_map (λ m. m.1)) (first (cond t (came m w) (walk_to key w))))
         ≡ ok_map (option_map (λ m. m.1))
         (first (cond t (came (pair_doc_at m) (walk_map pair_doc_at w)) (walk_from key (walk_map pair_doc_at w))))
@@ -231,7 +231,7 @@ module _ (t : List ℕ) (v : Value) (d : Document) (h : doc v ≡ Some d) where
           cond-true _ _ _ opens ∙ map-by pair_doc_at (pair_sites (text v.document)) _ _ _
           ∙ ap (walk_map pair_doc_at) (sym (cond-true _ _ _ opens)) in
           let all : object_walk v ≡ whole (all_members (members ms)) = (let e = object-whole v d h is in cc) in
-          map-to key (object_sites v) ∙ ap (first_with key) (sym along ∙ all) ∙ whole-with key ms
+          map-to key (object_sites v) ∙ ap (member_with key) (sym along ∙ all) ∙ whole-with key ms
           ∙ ap (λ x. Ok (some_of x)) (sym (ap (λ e. result_ok (named t e)) same ∙ ap (λ u. result_ok (member_at ms u)) names
           ∙ ok-or (views.first_with key ms) lacking.Key))
       go _ same is o names = cc
@@ -269,7 +269,7 @@ module _ (t : List ℕ) (v : Value) (d : Document) (h : doc v ≡ Some d) where
 
 -- where a token leads nowhere, so does the pointer
 pub leads-nowhere : (r : Result (Option Value) Stop) (further : Site → Reached) → None ≡ found r
-    → found (go_on (told (option_map site) r) further) ≡ None
+    → found (reach_further (told (option_map site) r) further) ≡ None
 leads-nowhere (Ok (Some w)) further h = cc
 leads-nowhere (Ok None) further h = refl
 leads-nowhere (Err s) further h = refl
@@ -279,7 +279,7 @@ followed-by [] s begins = refl
 followed-by (c ∷ q) s begins = let is : c ≡ 47 = begins (omega arith) in rw is refl
 
 module _ (p : List ℕ) (i e : ℕ) (at : IsTokenAt p i e) (s : Site) where
-  pub on-token : pointed_at (drop i p) s ≡ go_on (named_at (slice_range p (i + 1) e) s) (followed_at (tokens_after (drop e p)))
+  pub on-token : pointed_at (drop i p) s ≡ reach_further (named_at (slice_range p (i + 1) e) s) (followed_at (tokens_after (drop e p)))
   on-token =
       ap (λ q. pointed_at q s) (at-slash p i e at)
       ∙ ap (λ ts. followed_at ts s) (sym (ap tokens_after (at-slash p i e at)) ∙ at.split)

@@ -7,7 +7,7 @@ use Rattle.std.specs.Prelude.{Result, Ok, Err, IfOk}
 use Rattle.std.proofs.lemmas.Bool.{cond_both, eqb-true, false≢true}
 use Rattle.std.proofs.lemmas.List.{length-drop, get_or-drop}
 use Rattle.std.proofs.Math.Seq.{drop-drop}
-use Rattle.simd_json_parts.specs.Bytes.{byte_at}
+use Rattle.simd_json_parts.specs.Bytes.{byte_at, is_closing, is_opening}
 use Rattle.simd_json_parts.specs.Document.{Document, array, object, Elements, Members}
 use Rattle.simd_json_parts.specs.Tokens.{Token, Form, begin_array, end_array, begin_object, end_object, name_separator}
 use Rattle.simd_json_parts.specs.Tokens.{value_separator, string_token, scalar, form_at}
@@ -19,7 +19,7 @@ use Rattle.simd_json_parts.specs.Descent.{value_with, too_deep, value_from}
 use Rattle.simd_json_parts.specs.declared.error.Error.{Error}
 use Rattle.simd_json_parts.specs.declared.error.ErrorType.{ErrorType}
 use Rattle.simd_json_parts.specs.declared.error.ErrorType.TheVariants.{ExpectedObjectKey, ExpectedObjectContent}
-use Rattle.simd_json_ondemand.specs.Closing.{is_opening, is_closing, open_after, closed_at, first_bytes, span}
+use Rattle.simd_json_ondemand.specs.Closing.{open_after, closed_at, first_bytes, span}
 
 -- ---- a form and what its byte does to the count
 

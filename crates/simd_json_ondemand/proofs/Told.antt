@@ -3,7 +3,8 @@ use Rattle.std.proofs.Common.{◌≡◌, refl, sym, ◌∙◌, ap, [], ◌∷◌
 use Rattle.std.specs.Prelude.{Option, Some, None, Result, Ok, Err, IfOk, IfSome, MatchOption, MatchResult, option_map}
 use Rattle.std.specs.Result.{result_ok}
 use Rattle.simd_json_ondemand.specs.Stopped.{error_at, told}
-use Rattle.simd_json_ondemand.specs.Walks.{Walk, stopped, ended, came, found, items, ok_map}
+use Rattle.simd_json_ondemand.specs.Walks.{Walk, stopped, ended, came, found, items}
+use Rattle.simd_json_parts.specs.Views.{ok_map}
 use Rattle.simd_json_ondemand.specs.declared.unexpected.Unexpected.{Unexpected}
 use Rattle.simd_json_ondemand.specs.declared.walk.Stop.{Stop}
 use Rattle.simd_json_ondemand.proofs.Walks.{items-came, items-ended, items-stopped}

@@ -7,7 +7,8 @@ use Rattle.simd_json_parts.specs.Bytes.{quote, comma, colon, right_bracket, righ
 use Rattle.simd_json_ondemand.specs.Closing.{span}
 use Rattle.simd_json_ondemand.specs.Docs.{text, places}
 use Rattle.simd_json_ondemand.specs.Viewed.{read_along}
-use Rattle.simd_json_ondemand.specs.Walks.{Walk, stopped, ended, came, ok_map, and_ok, and_some, begins_value, value_here, behind_token}
+use Rattle.simd_json_ondemand.specs.Walks.{Walk, stopped, ended, came, and_ok, and_some, begins_value, value_here, behind_token}
+use Rattle.simd_json_parts.specs.Views.{ok_map}
 use Rattle.simd_json_ondemand.specs.Walks.{behind_item, first_item, item_ahead, element_ahead, member_here, member_ahead, walk_by}
 use Rattle.simd_json_ondemand.specs.Walks.{elements_seen, members_seen, elements_walk, members_walk, pair_along}
 use Rattle.simd_json_ondemand.specs.Within.{after_last}

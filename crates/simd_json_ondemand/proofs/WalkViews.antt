@@ -17,10 +17,11 @@ use Rattle.simd_json_ondemand.specs.Iterated.{all_some}
 use Rattle.simd_json_ondemand.specs.IteratedMembers.{all_members}
 use Rattle.simd_json_ondemand.specs.Standing.{opens_array, opens_object}
 use Rattle.simd_json_ondemand.specs.Viewed.{read_along}
-use Rattle.simd_json_ondemand.specs.Walked.{array_seen, object_seen, array_walk, object_walk, unexpected_here, first_with, string_wanted}
+use Rattle.simd_json_ondemand.specs.Walked.{array_seen, object_seen, array_walk, object_walk, unexpected_here, member_with, string_wanted}
 use Rattle.simd_json_ondemand.specs.Stopped.{error_at, told}
 use Rattle.simd_json_ondemand.specs.Unexpected.{unexpected}
-use Rattle.simd_json_ondemand.specs.Walks.{stopped, ended, came, whole, first, walk_past, walk_from, ok_map}
+use Rattle.simd_json_ondemand.specs.Walks.{stopped, ended, came, whole, first, walk_past, walk_from}
+use Rattle.simd_json_parts.specs.Views.{ok_map}
 use Rattle.simd_json_ondemand.specs.Walks.{elements_walk, members_walk}
 use Rattle.simd_json_ondemand.specs.Walks.{Walk, elements_seen, found, items, members_seen}
 use Rattle.simd_json_ondemand.specs.declared.array.Position.TheVariants.{First}
@@ -89,15 +90,15 @@ tried-at : (o : Option Document) → Some (option_map (λ e. Some e) o) ≡ opti
 tried-at None = refl
 tried-at (Some d) = refl
 
-pub stopped-with : (key : List ℕ) (e : Unexpected) → first_with key (stopped e) ≡ Err e
+pub stopped-with : (key : List ℕ) (e : Unexpected) → member_with key (stopped e) ≡ Err e
 stopped-with key e = ap (λ w. ok_map (option_map (λ m. m.1)) (first w)) (from-stopped key e)
 
 pub get-found : (key : List ℕ) (v : Value) (d : Document) → doc v ≡ Some d
-    → result_ok (first_with key (object_walk v)) ≡ option_map (option_map (λ e. Some e)) (result_ok (try_get key d))
+    → result_ok (member_with key (object_walk v)) ≡ option_map (option_map (λ e. Some e)) (result_ok (try_get key d))
 get-found key v (object ms) h =
     let same : object_walk v ≡ whole (all_members (members ms)) = (let e = object-whole v (object ms) h refl in cc) in
-    ap (λ w. result_ok (first_with key w)) same ∙ ap result_ok (whole-with key ms) ∙ tried-at _
-get-found key v d h = ap (λ w. result_ok (first_with key w)) (object-none v d h refl) ∙ ap result_ok (stopped-with key _)
+    ap (λ w. result_ok (member_with key w)) same ∙ ap result_ok (whole-with key ms) ∙ tried-at _
+get-found key v d h = ap (λ w. result_ok (member_with key w)) (object-none v d h refl) ∙ ap result_ok (stopped-with key _)
 
 pub idx-found : (i : ℕ) (v : Value) (d : Document) → doc v ≡ Some d
     → result_ok (first (walk_past i (array_walk v))) ≡ option_map (option_map (λ e. Some e)) (result_ok (try_get_idx i d))
@@ -108,11 +109,11 @@ idx-found i v (array ds) h =
 idx-found i v d h = ap (λ w. result_ok (first (walk_past i w))) (array-none v d h refl) ∙ ap (λ w. result_ok (first w)) (past-stopped i _)
 
 pub got : (key : List ℕ) (v : Value) (d : Document) → doc v ≡ Some d
-    → found (first_with key (object_walk v)) ≡ option_map (λ e. Some e) (get key d)
+    → found (member_with key (object_walk v)) ≡ option_map (λ e. Some e) (get key d)
 got key v (object ms) h =
     let same : object_walk v ≡ whole (all_members (members ms)) = (let e = object-whole v (object ms) h refl in cc) in
-    ap (λ w. found (first_with key w)) same ∙ ap found (whole-with key ms)
-got key v d h = ap (λ w. found (first_with key w)) (object-none v d h refl) ∙ ap found (stopped-with key _)
+    ap (λ w. found (member_with key w)) same ∙ ap found (whole-with key ms)
+got key v d h = ap (λ w. found (member_with key w)) (object-none v d h refl) ∙ ap found (stopped-with key _)
 
 pub idx-got : (i : ℕ) (v : Value) (d : Document) → doc v ≡ Some d
     → found (first (walk_past i (array_walk v))) ≡ option_map (λ e. Some e) (get_idx i d)
@@ -125,7 +126,7 @@ idx-got i v d h = ap (λ w. found (first (walk_past i w))) (array-none v d h ref
 pub found-with : (key : List ℕ) (r : Result (Option Value) Stop) (w more : Pairs) (P : Type 0)
     → MatchResult r (λ found. MatchOption found ((walk_from key w ≡ ended) × P)
     (λ v. walk_from key w ≡ came (Some (string key), doc v) more)) (λ s. (walk_from key w ≡ stopped (error_at s)) × P)
-    → told (option_map doc) r ≡ first_with key w
+    → told (option_map doc) r ≡ member_with key w
 found-with key (Ok (Some v)) w more P m = sym (ap (λ u. ok_map (option_map (λ m. m.1)) (first u)) m)
 found-with key (Ok None) w more P m = sym (ap (λ u. ok_map (option_map (λ m. m.1)) (first u)) m.0)
 found-with key (Err s) w more P m = sym (ap (λ u. ok_map (option_map (λ m. m.1)) (first u)) m.0)

@@ -15,7 +15,7 @@ use Rattle.simd_json_parts.specs.StringAt.{string_at}
 use Rattle.simd_json_parts.specs.Tokens.{Form, begin_array, end_array, begin_object, end_object, name_separator, value_separator}
 use Rattle.simd_json_parts.specs.Tokens.{Token, string_token, scalar, stray, form_at}
 use Rattle.simd_json_parts.specs.TokensAlong.{goes_on, tokens_along}
-use Rattle.simd_json_parts.specs.Views.{as_str, first_with}
+use Rattle.simd_json_parts.specs.Views.{as_str, first_with, ok_map}
 use Rattle.simd_json_parts.specs.declared.error.Error.{Error}
 use Rattle.simd_json_parts.specs.declared.error.ErrorType.TheVariants.{Syntax, ExpectedObjectKey}
 use Rattle.simd_json_stages.proofs.Machine.Steps.{ends_element, ends_member}
@@ -29,7 +29,7 @@ use Rattle.simd_json_ondemand.specs.Remaining.{members_inside, members_behind}
 use Rattle.simd_json_ondemand.specs.Unexpected.{unexpected}
 use Rattle.simd_json_ondemand.specs.Viewed.{first_read, read_along}
 use Rattle.simd_json_ondemand.specs.Walked as walks
-use Rattle.simd_json_ondemand.specs.Walks.{Walk, stopped, ended, came, whole, first, walk_past, walk_from, ok_map, and_ok, and_some}
+use Rattle.simd_json_ondemand.specs.Walks.{Walk, stopped, ended, came, whole, first, walk_past, walk_from, and_ok, and_some}
 use Rattle.simd_json_ondemand.specs.Walks.{or_walk, walk_round}
 use Rattle.simd_json_ondemand.specs.Walks.{begins_value, value_here, behind_token, behind_item, member_here}
 use Rattle.simd_json_ondemand.specs.Walks.{elements_walk, items, members_walk, pair_along, walk_by}
@@ -317,7 +317,7 @@ round-all w key left all same is =
     ∙ ap (λ k. walk_from k all) (sym same)
 
 pub whole-with : (key : List ℕ) (ms : Members)
-    → walks.first_with key (whole (all_members (members ms))) ≡ Ok (option_map (λ e. Some e) (first_with key ms))
+    → walks.member_with key (whole (all_members (members ms))) ≡ Ok (option_map (λ e. Some e) (first_with key ms))
 unfolding walk_from whole
 whole-with key no_members = refl
 whole-with key (member k d ms) = go (bytes_eq k key) (whole-with key ms)
@@ -325,7 +325,7 @@ whole-with key (member k d ms) = go (bytes_eq k key) (whole-with key ms)
     w : Pairs
     w = whole (all_members (members ms))
 
-    go : (t : Bool) → walks.first_with key w ≡ Ok (option_map (λ e. Some e) (first_with key ms))
+    go : (t : Bool) → walks.member_with key w ≡ Ok (option_map (λ e. Some e) (first_with key ms))
         → ok_map (option_map (λ m. m.1)) (first (cond t (came (Some (string k), Some d) w) (walk_from key w)))
         ≡ Ok (option_map (λ e. Some e) (cond t (Some d) (first_with key ms)))
     go true more = refl

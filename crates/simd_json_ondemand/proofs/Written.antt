@@ -6,18 +6,18 @@ use Rattle.std.specs.List.Sorted.{IsStrictlyIncreasing}
 use Rattle.std.proofs.lemmas.Bool.{cond_both}
 use Rattle.std.proofs.lemmas.List.{get_or-drop, drop_more}
 use Rattle.simd_json_parts.proofs.Positions.Order.{IsStrictlyIncreasing-positions}
-use Rattle.simd_json_parts.specs.Bytes.{byte_at}
+use Rattle.simd_json_parts.specs.Bytes.{byte_at, is_closing, is_opening}
 use Rattle.simd_json_parts.specs.Document.{Document}
 use Rattle.simd_json_parts.specs.Tokens.{Form, begin_array, begin_object, string_token, scalar, Token, form_at}
 use Rattle.simd_json_parts.specs.TokensAlong.{tokens_along}
 use Rattle.simd_json_parts.specs.declared.error.Error.{Error}
-use Rattle.simd_json_ondemand.specs.Closing.{closed_at, first_bytes, is_opening, is_closing, span}
+use Rattle.simd_json_ondemand.specs.Closing.{closed_at, first_bytes, span}
 use Rattle.simd_json_ondemand.specs.Remaining.{value_at_first}
 use Rattle.simd_json_ondemand.specs.Viewed.{first_read, read_along}
 use Rattle.simd_json_ondemand.specs.Standing.{opens_array, opens_object, literal_end}
 use Rattle.simd_json_check.specs.Scanned.{IsWholeScan}
 use Rattle.simd_json_ondemand.specs.Docs.{doc, text, index_of, form, literal}
-use Rattle.simd_json_ondemand.specs.Written.{last_index, enclosed, written}
+use Rattle.simd_json_ondemand.specs.Written.{last_place, enclosed, written}
 use Rattle.simd_json_ondemand.specs.declared.value.Value.{Value}
 use Rattle.simd_json_ondemand.proofs.Standing.{opens_array_byte, opens_object_byte}
 use Rattle.simd_json_ondemand.proofs.Agreement.{Begins, begins-at}
@@ -102,7 +102,7 @@ module _ (v : Value) where
     pub enclosed-some : is_opening (byte_at (text v.document) (index_of v)) ≡ true → is_some (enclosed v) ≡ true
     enclosed-some o =
         let b : List ℕ = text v.document in
-        ap (λ t. is_some (cond t (Some (slice_range b (index_of v) (suc (last_index v)))) None))
+        ap (λ t. is_some (cond t (Some (slice_range b (index_of v) (suc (last_place v)))) None))
         (container-closed b v.document.indexes.now v.at v.inside d h o)
 
     pub literal-some : is_opening (byte_at (text v.document) (index_of v)) ≡ false → is_some (literal v) ≡ true

@@ -1,13 +1,7 @@
 -- Where a value ends among the structural indexes, by brackets alone. Nothing is asked of the other bytes, nor
 -- whether brackets match: over a value that is read, it ends where the descent does, and so says a law.
-use Rattle.std.specs.Prelude.{ℕ, zero, suc, ◌<◌, List, [], ◌∷◌, length, map, slice_index, Bool, ◌||◌, ◌==◌, if◌then◌else◌}
-use Rattle.simd_json_parts.specs.Bytes.{left_bracket, right_bracket, left_brace, right_brace, byte_at}
-
-abbrev pub is_opening : ℕ → Bool
-is_opening c = (c == left_bracket) || (c == left_brace)
-
-abbrev pub is_closing : ℕ → Bool
-is_closing c = (c == right_bracket) || (c == right_brace)
+use Rattle.std.specs.Prelude.{ℕ, zero, suc, ◌<◌, List, [], ◌∷◌, length, map, slice_index, if◌then◌else◌}
+use Rattle.simd_json_parts.specs.Bytes.{byte_at, is_closing, is_opening}
 
 -- how many containers are open after a token with this first byte, where suc n are before it
 abbrev pub open_after : ℕ → ℕ → ℕ

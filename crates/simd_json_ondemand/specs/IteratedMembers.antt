@@ -12,8 +12,8 @@ abbrev pub members_left : Object → List (Option parts.Document × Option parts
 members_left o = items (members_ahead o)
 
 -- the same of all members of the object
-abbrev pub members_of : Object → List (Option parts.Document × Option parts.Document)
-members_of o = items (members_from_first o)
+abbrev pub all_members_in : Object → List (Option parts.Document × Option parts.Document)
+all_members_in o = items (members_from_first o)
 
 abbrev pub pair_doc : Value × Value → Option parts.Document × Option parts.Document
 pair_doc p = (doc p.0, doc p.1)

@@ -4,12 +4,12 @@ use Rattle.simd_json_parts.specs.Bytes.{slash}
 use Rattle.simd_json_parts.specs.Followed.{fits_64}
 use Rattle.simd_json_parts.specs.Pointed.{tokens, array_index, unescaped}
 use Rattle.simd_json_parts.specs.Tokens.{form_at}
-use Rattle.simd_json_parts.specs.Views.{as_str}
+use Rattle.simd_json_parts.specs.Views.{as_str, ok_map}
 use Rattle.simd_json_ondemand.specs.Keys.{is_key}
 use Rattle.simd_json_ondemand.specs.Sites.{Site, doc_at, element_site, pair_sites}
 use Rattle.simd_json_ondemand.specs.Standing.{opens_array, opens_object}
 use Rattle.simd_json_ondemand.specs.Unexpected.{unexpected}
-use Rattle.simd_json_ondemand.specs.Walks.{Walk, came, first, ok_map, walk_past, elements_seen, members_seen}
+use Rattle.simd_json_ondemand.specs.Walks.{Walk, came, first, walk_past, elements_seen, members_seen}
 use Rattle.simd_json_ondemand.specs.declared.array.Position.TheVariants.{First}
 use Rattle.simd_json_ondemand.specs.declared.unexpected.Expected.TheVariants.{Container}
 use Rattle.simd_json_ondemand.specs.declared.unexpected.Unexpected.{Unexpected}
@@ -45,15 +45,15 @@ named_at t (b, i ∷ is) =
     else if opens_object (form_at b i) then member_reached (unescaped t) (members_seen (pair_sites b) b First is)
     else Err (unexpected b Container (i ∷ is))
 
-abbrev pub go_on : Reached → (Site → Reached) → Reached
-go_on (Ok (Some s)) further = further s
-go_on (Ok None) further = Ok None
-go_on (Err e) further = Err e
+abbrev pub reach_further : Reached → (Site → Reached) → Reached
+reach_further (Ok (Some s)) further = further s
+reach_further (Ok None) further = Ok None
+reach_further (Err e) further = Err e
 
 -- each reference token leads on from the value before it
 abbrev pub followed_at : List (List ℕ) → Site → Reached
 followed_at [] s = Ok (Some s)
-followed_at (t ∷ ts) s = go_on (named_at t s) (followed_at ts)
+followed_at (t ∷ ts) s = reach_further (named_at t s) (followed_at ts)
 
 -- the empty pointer leads to the value itself; one without a `/` at its front leads nowhere
 abbrev pub pointed_at : List ℕ → Site → Reached

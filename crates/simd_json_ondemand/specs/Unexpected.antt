@@ -40,11 +40,11 @@ expected_text expected.Colon = codes "a colon"
 expected_text expected.CommaOrBracket = codes "a comma or ]"
 expected_text expected.CommaOrBrace = codes "a comma or }"
 
-abbrev pub found_text : Found → List ℕ
-found_text (found.Value kind) = type_words kind
-found_text found.Other = codes "no value"
-found_text found.End = codes "the end of the input"
+abbrev pub found_in_words : Found → List ℕ
+found_in_words (found.Value kind) = type_words kind
+found_in_words found.Other = codes "no value"
+found_in_words found.End = codes "the end of the input"
 
 abbrev pub unexpected_text : Unexpected → List ℕ
 unexpected_text e =
-    codes "expected " ++ expected_text e.expected ++ codes ", found " ++ found_text e.got ++ codes " at byte " ++ decimal e.index
+    codes "expected " ++ expected_text e.expected ++ codes ", found " ++ found_in_words e.got ++ codes " at byte " ++ decimal e.index

@@ -7,7 +7,8 @@ use Rattle.simd_json_ondemand.specs.Docs.{text, places, form, as_standing}
 use Rattle.simd_json_ondemand.specs.Standing.{opens_array, opens_object}
 use Rattle.simd_json_ondemand.specs.Unexpected.{unexpected}
 use Rattle.simd_json_ondemand.specs.Viewed.{read_along}
-use Rattle.simd_json_ondemand.specs.Walks.{Walk, stopped, first, ok_map, elements_seen, members_seen, elements_walk, members_walk}
+use Rattle.simd_json_ondemand.specs.Walks.{Walk, stopped, first, elements_seen, members_seen, elements_walk, members_walk}
+use Rattle.simd_json_parts.specs.Views.{ok_map}
 use Rattle.simd_json_ondemand.specs.Walks.{pair_along, walk_from}
 use Rattle.simd_json_ondemand.specs.declared.array.Array.{Array}
 use Rattle.simd_json_ondemand.specs.declared.array.Position.TheVariants.{First}
@@ -61,5 +62,5 @@ abbrev pub object_walk : Value → Walk (Option parts.Document × Option parts.D
 object_walk v = object_seen (pair_along (text v.document)) v
 
 -- the value of the first member with the key
-abbrev pub first_with : List ℕ → Walk (Option parts.Document × Option parts.Document) → Result (Option (Option parts.Document)) Unexpected
-first_with key w = ok_map (option_map (λ m. m.1)) (first (walk_from key w))
+abbrev pub member_with : List ℕ → Walk (Option parts.Document × Option parts.Document) → Result (Option (Option parts.Document)) Unexpected
+member_with key w = ok_map (option_map (λ m. m.1)) (first (walk_from key w))

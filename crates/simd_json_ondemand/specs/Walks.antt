@@ -6,7 +6,7 @@ use Rattle.std.specs.Char.{is_ascii_digit}
 use Rattle.simd_json_parts.specs.Bytes.{quote, comma, minus_sign, colon, left_bracket, right_bracket, lower_f, lower_n, lower_t, byte_at}
 use Rattle.simd_json_parts.specs.Bytes.{left_brace, right_brace}
 use Rattle.simd_json_parts.specs.Document as parts
-use Rattle.simd_json_parts.specs.Views.{as_str}
+use Rattle.simd_json_parts.specs.Views.{as_str, ok_map}
 use Rattle.simd_json_ondemand.specs.Closing.{span}
 use Rattle.simd_json_ondemand.specs.Keys.{is_key}
 use Rattle.simd_json_ondemand.specs.Unexpected.{unexpected}
@@ -16,10 +16,6 @@ use Rattle.simd_json_ondemand.specs.declared.array.Position.TheVariants.{First, 
 use Rattle.simd_json_ondemand.specs.declared.unexpected.Expected.{Expected}
 use Rattle.simd_json_ondemand.specs.declared.unexpected.Expected.TheVariants as expected
 use Rattle.simd_json_ondemand.specs.declared.unexpected.Unexpected.{Unexpected}
-
-abbrev pub ok_map : {A B E : Type 0} → (A → B) → Result A E → Result B E
-ok_map f (Ok x) = Ok (f x)
-ok_map f (Err e) = Err e
 
 abbrev pub and_ok : {A B E : Type 0} → Result A E → (A → Result B E) → Result B E
 and_ok (Ok x) f = f x

@@ -38,11 +38,11 @@ impl<'d> Iterator for Array<'d> {
 
     ghost use Rattle.std.specs.Iterator.{YieldsFirstBy, item_count};
     ghost use Rattle.simd_json_ondemand.specs.Docs.{doc};
-    ghost use Rattle.simd_json_ondemand.specs.Iterated.{elements_left};
+    ghost use Rattle.simd_json_ondemand.specs.Iterated.{elements_to_come};
 
-    ghost next_gives = { YieldsFirstBy doc elements_left };
+    ghost next_gives = { YieldsFirstBy doc elements_to_come };
 
-    ghost remaining = { item_count elements_left };
+    ghost remaining = { item_count elements_to_come };
 
     #[inline(always)]
     fn next(&mut self) -> Option<Value<'d>> {
@@ -57,7 +57,7 @@ impl<'d> Array<'d> {
     ghost use Rattle.std.specs.Prelude.{option_map};
     ghost use Rattle.std.specs.Iterator.{YieldsFirstBy};
     ghost use Rattle.simd_json_ondemand.specs.Docs.{doc};
-    ghost use Rattle.simd_json_ondemand.specs.Iterated.{elements_left};
+    ghost use Rattle.simd_json_ondemand.specs.Iterated.{elements_to_come};
     ghost use Rattle.simd_json_ondemand.specs.Sites.{element_sites, site};
     ghost use Rattle.simd_json_ondemand.specs.Stopped.{error_at, told};
     ghost use Rattle.simd_json_ondemand.specs.Walked.{elements_ahead};
@@ -105,7 +105,7 @@ impl<'d> Array<'d> {
     /// early without a word; [`try_next`](Array::try_next) tells that.
     #[inline(always)]
     pub fn next_value(&mut self) -> Option<Value<'d>>
-        ensures steps { YieldsFirstBy doc elements_left self.old result self.new }
+        ensures steps { YieldsFirstBy doc elements_to_come self.old result self.new }
         ensures ahead { MatchOption result (items (elements_ahead self.old) ≡ [])
             (λ value. elements_ahead self.old ≡ came (doc value) (elements_ahead self.new)) }
         ensures sites { MatchOption result (items (element_sites self.old) ≡ [])
@@ -154,7 +154,7 @@ impl<'d> Array<'d> {
     #[inline(always)]
     pub fn pass(&mut self, end: End)
         ensures left { after_last self.old.document self.old.at self.old.position ≡ Some end.after
-            → elements_left self.new ≡ elements_left self.old }
+            → elements_to_come self.new ≡ elements_to_come self.old }
         ensures ahead { after_last self.old.document self.old.at self.old.position
             ≡ Some end.after → elements_ahead self.new ≡ elements_ahead self.old }
         ensures inside { after_last self.old.document self.old.at self.old.position
@@ -176,7 +176,7 @@ impl<'d> Value<'d> {
     ghost use Rattle.std.specs.Prelude.{MatchResult, option_map};
     ghost use Rattle.std.specs.Result.{result_ok};
     ghost use Rattle.simd_json_ondemand.specs.Docs.{doc, form};
-    ghost use Rattle.simd_json_ondemand.specs.Iterated.{elements_left, all_some};
+    ghost use Rattle.simd_json_ondemand.specs.Iterated.{elements_to_come, all_some};
     ghost use Rattle.simd_json_ondemand.specs.Sites.{array_sites, element_sites, site};
     ghost use Rattle.simd_json_ondemand.specs.Standing.{opens_array};
     ghost use Rattle.simd_json_ondemand.specs.Stopped.{error_at, told};
@@ -220,7 +220,7 @@ impl<'d> Value<'d> {
     #[inline(always)]
     pub fn as_array(self) -> Option<Array<'d>>
         ensures document { (d : parts.Document) → doc self.entry ≡ Some d
-            → option_map elements_left result ≡ option_map all_some (as_array d) }
+            → option_map elements_to_come result ≡ option_map all_some (as_array d) }
         ensures inside { (d : parts.Document) → doc self.entry ≡ Some d
             → IfSome result (IsInArray self.entry) }
         ensures any { IfSome result (λ array. opens_array (form self.entry) ≡ true) }

@@ -178,14 +178,14 @@ impl<'d> Value<'d> {
     ghost use Rattle.std.specs.Result.{result_ok};
     ghost use Rattle.simd_json_ondemand.specs.Docs.{doc, form, index_of, text};
     ghost use Rattle.simd_json_parts.specs.Bytes.{byte_at, quote};
-    ghost use Rattle.simd_json_ondemand.specs.IteratedMembers.{members_left, members_of};
+    ghost use Rattle.simd_json_ondemand.specs.IteratedMembers.{members_left, all_members_in};
     ghost use Rattle.simd_json_ondemand.specs.IteratedMembers.{all_members};
     ghost use Rattle.simd_json_ondemand.specs.Keys.{is_key};
     ghost use Rattle.simd_json_ondemand.specs.Reached.{key_reached};
     ghost use Rattle.simd_json_ondemand.specs.Sites.{member_sites, object_sites, site};
     ghost use Rattle.simd_json_ondemand.specs.Standing.{opens_object};
     ghost use Rattle.simd_json_ondemand.specs.Stopped.{error_at, told};
-    ghost use Rattle.simd_json_ondemand.specs.Walked.{first_with, members_ahead};
+    ghost use Rattle.simd_json_ondemand.specs.Walked.{member_with, members_ahead};
     ghost use Rattle.simd_json_ondemand.specs.Walked.{members_from_first, object_walk};
     ghost use Rattle.simd_json_ondemand.specs.Walks.{found, items, stopped, whole};
     ghost use Rattle.simd_json_ondemand.specs.Within.{IsInObject};
@@ -229,7 +229,7 @@ impl<'d> Value<'d> {
     pub fn as_object(self) -> Option<Object<'d>>
         ensures document { (d : parts.Document) → doc self.entry ≡ Some d
             → option_map members_left result ≡ option_map all_members (as_object d) }
-        ensures first { IfSome result (λ object. members_left object ≡ members_of object) }
+        ensures first { IfSome result (λ object. members_left object ≡ all_members_in object) }
         ensures inside { (d : parts.Document) → doc self.entry ≡ Some d
             → IfSome result (IsInObject self.entry) }
         ensures any { IfSome result (λ object. opens_object (form self.entry) ≡ true) }
@@ -248,7 +248,7 @@ impl<'d> Value<'d> {
     #[inline(always)]
     pub(crate) fn member(self, key: &str) -> Result<Option<Value<'d>>, Stop<'d>>
         ensures walk { told (option_map doc) result
-            ≡ first_with key.now (object_walk self.entry) }
+            ≡ member_with key.now (object_walk self.entry) }
         ensures site { told (option_map site) result
             ≡ key_reached key.now (object_sites self.entry) }
         ensures any { IfOk result (λ value. opens_object (form self.entry) ≡ true) }

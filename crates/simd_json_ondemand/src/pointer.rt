@@ -3,7 +3,6 @@ ghost use Rattle.std.specs.Prelude.{◌≡◌, is_some, option_map, true};
 ghost use Rattle.simd_json_ondemand.specs.Reached.{member_reached, named_at};
 ghost use Rattle.simd_json_ondemand.specs.Sites.{member_sites, site};
 ghost use Rattle.simd_json_ondemand.specs.Stopped.{told};
-ghost use Rattle.simd_json_parts.specs.Followed.{IsPlain};
 ghost use Rattle.simd_json_parts.specs.Pointed.{unescaped};
 
 use crate::key::is_written;
@@ -11,7 +10,7 @@ use crate::object::Object;
 use crate::unexpected::{Expected, Unexpected};
 use crate::value::Value;
 use crate::walk::{Stop, found, told};
-use simd_json_parts::pointer::{Pointer, is_plain, is_well_formed, next_token, read_index};
+use simd_json_parts::pointer::{Parent, Pointer, follow, is_plain, is_well_formed, read_index};
 
 impl<'d> Value<'d> {
     ghost use Rattle.std.specs.Prelude.{◌≡◌, IfErr, List, Some, ℕ};
@@ -24,12 +23,12 @@ impl<'d> Value<'d> {
     ghost use Rattle.simd_json_ondemand.specs.Reached.{pointed_at};
     ghost use Rattle.simd_json_ondemand.specs.Sites.{site};
     ghost use Rattle.simd_json_ondemand.specs.Stopped.{told};
-    ghost use Rattle.simd_json_ondemand.specs.Walks.{found, ok_map};
+    ghost use Rattle.simd_json_ondemand.specs.Walks.{found};
     ghost use Rattle.simd_json_ondemand.specs.declared.unexpected.Expected.TheVariants.{Container};
     ghost use Rattle.simd_json_parts.specs.Document as parts;
     ghost use Rattle.simd_json_parts.specs.Pointed.{pointed, unescaped};
     ghost use Rattle.simd_json_parts.specs.PointedText.{text};
-    ghost use Rattle.simd_json_parts.specs.Views.{as_str};
+    ghost use Rattle.simd_json_parts.specs.Views.{as_str, ok_map};
 
     /// Returns the value that a JSON Pointer names (RFC 6901), or `None` where it is malformed or
     /// leads nowhere. `None` does not tell the end of an array or an object from bytes that are
@@ -98,19 +97,11 @@ impl<'d> Value<'d> {
         ensures container { (d : parts.Document) → doc self.entry ≡ Some d
             → IfErr result (λ s. s.expected ≡ Container) }
     {
-        let bytes = pointer.as_bytes();
-        let mut reached = self;
-        let mut followed = 0;
-        while let Some(token) = next_token(bytes, followed) {
-            let text = &pointer[followed + 1..token.end];
-            match reached.child(text, token.is_plain) {
-                Ok(Some(next)) => reached = next,
-                Ok(None) => return Ok(None),
-                Err(stop) => return Err(stop),
-            }
-            followed = token.end;
-        }
-        if followed < bytes.len() {
+        let (reached, followed) = match follow(self, pointer) {
+            Ok(led) => led,
+            Err(stop) => return Err(stop),
+        };
+        if followed < pointer.len() {
             return Ok(None);
         }
         Ok(Some(reached))
@@ -136,11 +127,24 @@ impl<'d> Value<'d> {
         Some(reached)
     }
 
-    // The value that a token names in this one.
-    fn child(self, token: &str, is_plain: bool) -> Result<Option<Value<'d>>, Stop<'d>>
-        requires { is_plain ≡ true → IsPlain token.now }
-        ensures { told (option_map site) result ≡ named_at token.now (site self.entry) }
+    // Whether the string here is the key that a token is.
+    #[inline(always)]
+    fn is_named(self, token: &[u8]) -> bool
+        requires opening { byte_at (docs.text self.document) (docs.index_of self) ≡ quote }
+        requires formed { is_some (unescaped token.now) ≡ true }
+        ensures { (key : List ℕ) → unescaped token.now ≡ Some key
+            → result ≡ is_key key (option_and_then as_str (doc self.entry)) }
     {
+        is_written::<true>(self.bytes(), token)
+    }
+}
+
+impl<'d> Parent for Value<'d> {
+    type Stop = Stop<'d>;
+
+    ghost names = { λ v token found. told (option_map site) found ≡ named_at token (site v) };
+
+    fn child(self, token: &str, is_plain: bool) -> Result<Option<Value<'d>>, Stop<'d>> {
         if self.is_array() {
             return match read_index(token) {
                 Some(index) => self.element(index),
@@ -161,17 +165,6 @@ impl<'d> Value<'d> {
             Ok(members) => find_named(members, token),
             Err(stop) => Err(stop),
         }
-    }
-
-    // Whether the string here is the key that a token is.
-    #[inline(always)]
-    fn is_named(self, token: &[u8]) -> bool
-        requires opening { byte_at (docs.text self.document) (docs.index_of self) ≡ quote }
-        requires formed { is_some (unescaped token.now) ≡ true }
-        ensures { (key : List ℕ) → unescaped token.now ≡ Some key
-            → result ≡ is_key key (option_and_then as_str (doc self.entry)) }
-    {
-        is_written::<true>(self.bytes(), token)
     }
 }
 

@@ -1,7 +1,6 @@
 //! The bytes of a value as they are written.
 ghost use Rattle.std.specs.Prelude.{◌≡◌};
-ghost use Rattle.simd_json_parts.specs.Bytes.{byte_at};
-ghost use Rattle.simd_json_ondemand.specs.Closing.{is_opening, is_closing};
+ghost use Rattle.simd_json_parts.specs.Bytes.{byte_at, is_closing, is_opening};
 
 use crate::skip::skip;
 use crate::value::Value;

@@ -3,8 +3,9 @@
 ghost use Rattle.std.specs.Prelude.{◌≡◌, ◌+◌, ◌^◌, ◌<◌, ◌≤◌, List, ℕ, length, take, drop, map};
 ghost use Rattle.std.specs.Prelude.{MatchOption};
 ghost use Rattle.std.specs.Simd.Lanes.{mask_l};
-ghost use Rattle.simd_json_ondemand.specs.Closing.{AreWithin, closed_at, first_bytes, is_closing};
-ghost use Rattle.simd_json_ondemand.specs.Closing.{is_opening, open_through, span};
+ghost use Rattle.simd_json_ondemand.specs.Closing.{AreWithin, closed_at, first_bytes};
+ghost use Rattle.simd_json_parts.specs.Bytes.{is_closing, is_opening};
+ghost use Rattle.simd_json_ondemand.specs.Closing.{open_through, span};
 
 use std::simd::prelude::*;
 

@@ -11,17 +11,18 @@ impl<'d> Value<'d> {
     ghost use Rattle.std.specs.Prelude.{ok_or, option_map};
     ghost use Rattle.std.specs.Result.{result_ok};
     ghost use Rattle.simd_json_ondemand.specs.Docs.{doc, form, as_standing, HasEscape};
-    ghost use Rattle.simd_json_ondemand.specs.Iterated.{elements_left, all_some};
+    ghost use Rattle.simd_json_ondemand.specs.Iterated.{elements_to_come, all_some};
     ghost use Rattle.simd_json_ondemand.specs.IteratedMembers.{members_left, all_members};
     ghost use Rattle.simd_json_ondemand.specs.Reached.{key_reached};
     ghost use Rattle.simd_json_ondemand.specs.Sites.{array_sites, element_sites, site};
     ghost use Rattle.simd_json_ondemand.specs.Sites.{member_sites, object_sites};
     ghost use Rattle.simd_json_ondemand.specs.Walked.{unexpected_here, tried, string_wanted};
-    ghost use Rattle.simd_json_ondemand.specs.Walked.{first_with};
+    ghost use Rattle.simd_json_ondemand.specs.Walked.{member_with};
     ghost use Rattle.simd_json_ondemand.specs.Walked.{array_walk, object_walk};
     ghost use Rattle.simd_json_ondemand.specs.Walked.{elements_ahead, members_ahead};
     ghost use Rattle.simd_json_ondemand.specs.Walked.{members_from_first};
-    ghost use Rattle.simd_json_ondemand.specs.Walks.{ok_map, stopped, whole, first, walk_past};
+    ghost use Rattle.simd_json_ondemand.specs.Walks.{stopped, whole, first, walk_past};
+    ghost use Rattle.simd_json_parts.specs.Views.{ok_map};
     ghost use Rattle.simd_json_ondemand.specs.declared.unexpected.Expected.TheVariants.{Kind};
     ghost use Rattle.simd_json_parts.specs.Accessors as accessors;
     ghost use Rattle.simd_json_parts.specs.Document as parts;
@@ -104,7 +105,7 @@ impl<'d> Value<'d> {
         ensures sites { MatchResult result (λ array. array_sites self.entry ≡ element_sites array)
             (λ e. array_sites self.entry ≡ stopped e) }
         ensures document { (d : parts.Document) → doc self.entry ≡ Some d
-            → option_map elements_left (result_ok result) ≡ option_map all_some (as_array d) }
+            → option_map elements_to_come (result_ok result) ≡ option_map all_some (as_array d) }
         ensures all { (d : parts.Document) → doc self.entry ≡ Some d
             → option_map elements_ahead (result_ok result)
             ≡ option_map (λ ds. whole (all_some ds)) (as_array d) }
@@ -151,7 +152,7 @@ impl<'d> Value<'d> {
     #[inline(always)]
     pub fn try_get(self, key: &str) -> Result<Option<Value<'d>>, Unexpected>
         ensures walk { ok_map (option_map doc) result
-            ≡ first_with key.now (object_walk self.entry) }
+            ≡ member_with key.now (object_walk self.entry) }
         ensures site { ok_map (option_map site) result
             ≡ key_reached key.now (object_sites self.entry) }
         ensures document { (d : parts.Document) → doc self.entry ≡ Some d

@@ -73,9 +73,9 @@ impl fmt::Display for Expected {
 
 impl fmt::Display for Found {
     ghost use Rattle.std.specs.Prelude.{Some};
-    ghost use Rattle.simd_json_ondemand.specs.Unexpected.{found_text};
+    ghost use Rattle.simd_json_ondemand.specs.Unexpected.{found_in_words};
 
-    ghost output = { λ found. Some (found_text found) };
+    ghost output = { λ found. Some (found_in_words found) };
 
     fn fmt<W: fmt::Write>(&self, f: &mut fmt::Formatter<W>) -> fmt::Result {
         f.write_str(match self {

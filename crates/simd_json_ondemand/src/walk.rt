@@ -13,7 +13,7 @@ use crate::value::{Document, Value};
 /// Where a walk stopped, and what it expected there. Its fields lie where those of a value lie in
 /// an `Option<Value>`: else a value that is found is written in pieces, and read at once.
 #[derive(Clone, Copy)]
-pub(crate) struct Stop<'d> {
+pub struct Stop<'d> {
     pub(crate) expected: Expected,
     pub(crate) document: Document<'d>,
     // how many structural indexes are before it

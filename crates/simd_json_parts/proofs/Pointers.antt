@@ -5,3 +5,4 @@ pub mod Keys
 pub mod Indexes
 pub mod Fronts
 pub mod Stripping
+pub mod Leading

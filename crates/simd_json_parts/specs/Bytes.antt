@@ -72,6 +72,12 @@ right_brace = 125
 abbrev pub is_whitespace : ℕ → Bool
 is_whitespace c = (c == space) || (c == tab) || (c == line_feed) || (c == carriage_return)
 
+abbrev pub is_opening : ℕ → Bool
+is_opening c = (c == left_bracket) || (c == left_brace)
+
+abbrev pub is_closing : ℕ → Bool
+is_closing c = (c == right_bracket) || (c == right_brace)
+
 -- [ ] { } : ,
 abbrev pub is_structural : ℕ → Bool
 is_structural c =

@@ -35,6 +35,7 @@ pub mod Printed
 pub mod Pointed
 pub mod PointedText
 pub mod Followed
+pub mod Led
 -- Where tokens end, and the headers of a listing. They serve proofs, and a law of each.
 pub mod TokensAlong
 pub mod Headers

@@ -110,16 +110,16 @@ values ms = map (λ (m : List ℕ × Document). m.1) (members ms)
 
 -- ---- the `try_` forms: an error names the kind that was expected, and the value's
 
+abbrev pub ok_map : {A B E : Type 0} → (A → B) → Result A E → Result B E
+ok_map f (Ok x) = Ok (f x)
+ok_map f (Err e) = Err e
+
 abbrev pub mismatch : ValueType → Document → TryTypeError
 mismatch expected d = record { expected = expected; got = value_type d }
 
-abbrev pub some_ok : {A : Type 0} → Result A TryTypeError → Result (Option A) TryTypeError
-some_ok (Ok x) = Ok (Some x)
-some_ok (Err e) = Err e
-
 abbrev pub try_at : {A : Type 0} → (Document → Result A TryTypeError) → Option Document → Result (Option A) TryTypeError
 try_at try_t None = Ok None
-try_at try_t (Some d) = some_ok (try_t d)
+try_at try_t (Some d) = ok_map (λ x. Some x) (try_t d)
 
 abbrev pub try_get_as : {A : Type 0} → (Document → Result A TryTypeError) → List ℕ → Document → Result (Option A) TryTypeError
 try_get_as try_t key (object ms) = try_at try_t (first_with key ms)

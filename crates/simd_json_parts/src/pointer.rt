@@ -13,12 +13,14 @@ ghost use Rattle.simd_json_parts.specs.Views.{value_type};
 
 mod index;
 mod key;
+mod lead;
 mod split;
 mod token;
 
 use crate::node::ValueType;
 pub use index::{is_index, read_index};
 pub use key::{is_key, is_well_formed, key_len, strip_decoded};
+pub use lead::{Parent, follow};
 pub use split::Pointer;
 use std::fmt;
 pub use token::{Token, is_plain, next_token};

@@ -1,7 +1,7 @@
 -- What the nodes so far and the stack mean for the containers that are open, the innermost first.
 use Rattle.std.specs.Prelude.{◌≡◌, ℕ, zero, suc, ◌+◌, ◌-◌, List, [], ◌∷◌, ◌++◌, length, get_or, slice_set, map, drop, Bool, true, false}
-use Rattle.std.specs.Prelude.{◌||◌, ◌==◌, Result, Ok, Err}
-use Rattle.simd_json_parts.specs.Bytes.{byte_at}
+use Rattle.std.specs.Prelude.{Result, Ok, Err}
+use Rattle.simd_json_parts.specs.Bytes.{byte_at, is_closing}
 use Rattle.simd_json_parts.specs.Document.{Document, array, object, no_elements, no_members}
 use Rattle.simd_json_parts.specs.Nodes.{Item, array_item, object_item, string_item, item_of}
 use Rattle.simd_json_parts.specs.Listing.{listing}
@@ -28,9 +28,6 @@ use Rattle.simd_json_stages.specs.declared.stage2.fault.FaultKind.TheVariants as
 abbrev pub closer : Container → ℕ
 closer Array = 93
 closer Object = 125
-
-abbrev pub is_closing : ℕ → Bool
-is_closing x = (x == 93) || (x == 125)
 
 abbrev pub header_of : Container → ℕ → ℕ → Item
 header_of Array len count = array_item len count

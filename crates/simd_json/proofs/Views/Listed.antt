@@ -15,10 +15,10 @@ use Rattle.simd_json_parts.specs.Nodes.{Item, array_item, object_item, item_of}
 use Rattle.simd_json_parts.specs.Headers.{count_of, len_of}
 use Rattle.simd_json_parts.specs.declared.node.Node.{Node}
 use Rattle.simd_json_parts.specs.declared.node.Node.TheVariants as nodes
-use Rattle.simd_json.specs.Descending.{joined, flat}
+use Rattle.simd_json.specs.Descending.{elements_joined, flat}
 use Rattle.simd_json.specs.Documents.{magnitude_below, static_document, first_in_row, front, other_elements, in_pairs}
 use Rattle.simd_json.specs.Documents.{front_pairs, other_pairs}
-use Rattle.simd_json.specs.Documents.{elements_of, document_of, members_of, IsListing, AreElements, AreMembers}
+use Rattle.simd_json.specs.Documents.{elements_of, document_of, members_of, IsListing, AreElementNodes, AreMemberNodes}
 
 pub magnitude-below : (n : ℕ) → magnitude_below (neg_ℤ (pos n)) ≡ n
 magnitude-below zero = refl
@@ -31,15 +31,15 @@ document-integer =
 
 -- ---- documents in a row
 
-joined-none : (ds : Elements) → joined ds no_elements ≡ ds
+joined-none : (ds : Elements) → elements_joined ds no_elements ≡ ds
 joined-none no_elements = refl
 joined-none (element d ds) = ap (element d) (joined-none ds)
 
-pub front-joined : (ds es : Elements) → front (length (elements ds)) (joined ds es) ≡ ds
+pub front-joined : (ds es : Elements) → front (length (elements ds)) (elements_joined ds es) ≡ ds
 front-joined no_elements es = refl
 front-joined (element d ds) es = ap (element d) (front-joined ds es)
 
-pub others-joined : (ds es : Elements) → other_elements (length (elements ds)) (joined ds es) ≡ es
+pub others-joined : (ds es : Elements) → other_elements (length (elements ds)) (elements_joined ds es) ≡ es
 others-joined no_elements es = refl
 others-joined (element d ds) es = others-joined ds es
 
@@ -68,7 +68,7 @@ mutual
       rw (e, front-flat, others-flat)
   elements_of-listing _ ns = refl
 
-  elements_of-elements : (ds : Elements) (ns : List Item) → elements_of (elements_listing ds ++ ns) ≡ joined ds (elements_of ns)
+  elements_of-elements : (ds : Elements) (ns : List Item) → elements_of (elements_listing ds ++ ns) ≡ elements_joined ds (elements_of ns)
   elements_of-elements no_elements ns = refl
   elements_of-elements (element d ds) ns =
       rw append_assoc (elements_of-listing d (elements_listing ds ++ ns) ∙ ap (element d) (elements_of-elements ds ns))
@@ -92,7 +92,7 @@ members_of-all ms = ap members_of (sym (append-nil (members_listing ms))) ∙ ap
 -- ---- beneath a header
 
 pub record IsArrayOf (xs : List Item) (len : ℕ) (ns : List Item) : Type 0 where
-  pub listed : AreElements ns
+  pub listed : AreElementNodes ns
   pub counted : len ≡ length (elements (elements_of ns))
   pub whole : document_of xs ≡ array (elements_of ns)
 
@@ -111,7 +111,7 @@ array-of xs ns len count is headed =
     }
 
 pub record IsObjectOf (xs : List Item) (len : ℕ) (ns : List Item) : Type 0 where
-  pub listed : AreMembers ns
+  pub listed : AreMemberNodes ns
   pub counted : len ≡ length (members (members_of ns))
   pub whole : document_of xs ≡ object (members_of ns)
 

@@ -10,7 +10,7 @@ use Rattle.simd_json_parts.specs.Nodes.{Item, string_item, item_of}
 use Rattle.simd_json_parts.specs.Views.{get, get_idx, is_object, is_array}
 use Rattle.simd_json_parts.specs.declared.node.Node.{Node}
 use Rattle.simd_json_parts.specs.declared.node.Node.TheVariants as nodes
-use Rattle.simd_json.specs.Documents.{elements_of, members_of, in_pairs, AreElements, AreMembers}
+use Rattle.simd_json.specs.Documents.{elements_of, members_of, in_pairs, AreElementNodes, AreMemberNodes}
 use Rattle.simd_json.proofs.Views.Listed.{elements_of-listing}
 
 -- ---- documents in a row
@@ -27,17 +27,17 @@ begins-with : (ns : List Node) (ds : Elements) → elements_listing ds ≡ map i
 begins-with ns no_elements is some = absurd (omega arith)
 begins-with ns (element d ds) is some = (d, (elements_listing ds, sym is))
 
-pub begins : (ns : List Node) (len : ℕ) → AreElements (map item_of ns) → len ≡ length (elements (elements_of (map item_of ns)))
+pub begins : (ns : List Node) (len : ℕ) → AreElementNodes (map item_of ns) → len ≡ length (elements (elements_of (map item_of ns)))
     → 0 < len → (d : Document) × StandsFor ns d
 begins ns len listed counted some = begins-with ns (elements_of (map item_of ns)) listed (omega arith)
 
 -- without the first of `len` documents
 pub record IsWithoutFirst (xs : List Item) (len : ℕ) (d : Document) (ys : List Item) : Type 0 where
-  pub listed : AreElements ys
+  pub listed : AreElementNodes ys
   pub counted : len - 1 ≡ length (elements (elements_of ys))
   pub whole : elements_of xs ≡ element d (elements_of ys)
 
-pub without-first : (xs ys : List Item) (len : ℕ) (d : Document) → AreElements xs → len ≡ length (elements (elements_of xs))
+pub without-first : (xs ys : List Item) (len : ℕ) (d : Document) → AreElementNodes xs → len ≡ length (elements (elements_of xs))
     → xs ≡ listing d ++ ys → IsWithoutFirst xs len d ys
 without-first xs ys len d listed counted is =
     let whole : elements_of xs ≡ element d (elements_of ys) = ap elements_of is ∙ elements_of-listing d ys in
@@ -52,11 +52,11 @@ without-first xs ys len d listed counted is =
 
 -- without the first of `len` pairs
 pub record IsWithoutPair (xs : List Item) (len : ℕ) (k : List ℕ) (d : Document) (ys : List Item) : Type 0 where
-  pub listed : AreMembers ys
+  pub listed : AreMemberNodes ys
   pub counted : len - 1 ≡ length (members (members_of ys))
   pub whole : members_of xs ≡ member k d (members_of ys)
 
-pub without-pair : (xs zs ys : List Item) (len : ℕ) (k : List ℕ) (d : Document) → AreMembers xs
+pub without-pair : (xs zs ys : List Item) (len : ℕ) (k : List ℕ) (d : Document) → AreMemberNodes xs
     → len ≡ length (members (members_of xs)) → xs ≡ string_item k ∷ zs → zs ≡ listing d ++ ys → IsWithoutPair xs len k d ys
 without-pair xs zs ys len k d listed counted headed is =
     let whole : members_of xs ≡ member k d (members_of ys) =
@@ -81,7 +81,7 @@ headed : (ns : List Node) (default : Node) (key : Bor (List ℕ)) → 0 < length
 headed [] default key some is = absurd (omega arith)
 headed (n ∷ ns) default key some is = ap (λ x. item_of x ∷ map item_of ns) is
 
-pub headed-by : (ns first others : List Node) (default : Node) (key : Bor (List ℕ)) (len : ℕ) → AreMembers (map item_of ns)
+pub headed-by : (ns first others : List Node) (default : Node) (key : Bor (List ℕ)) (len : ℕ) → AreMemberNodes (map item_of ns)
     → len ≡ length (members (members_of (map item_of ns))) → 0 < len
     → first ≡ take 1 ns → others ≡ drop 1 ns → get_or first 0 default ≡ nodes.String key
     → map item_of ns ≡ string_item key.now ∷ map item_of others

@@ -4,7 +4,7 @@ use Rattle.std.proofs.Common.{append_assoc, length, get_or, set, drop, cond, add
 use Rattle.std.specs.Prelude.{Ok, Err}
 use Rattle.std.proofs.lemmas.List.{get_or-set_other, get_or-set_same, drop_more}
 use Rattle.std.proofs.Math.Seq.{drop-length}
-use Rattle.simd_json_parts.specs.Bytes.{byte_at}
+use Rattle.simd_json_parts.specs.Bytes.{byte_at, is_closing}
 use Rattle.simd_json_parts.specs.Document.{Document, string}
 use Rattle.simd_json_parts.specs.Nodes.{Item}
 use Rattle.simd_json_parts.specs.Listing.{listing}
@@ -18,7 +18,7 @@ use Rattle.simd_json_parts.specs.declared.error.ErrorType.{ErrorType}
 use Rattle.simd_json_parts.specs.declared.error.ErrorType.TheVariants.{Syntax}
 use Rattle.simd_json_parts.proofs.Positions.TokensAtPositions.{tokens-positions}
 use Rattle.simd_json_stages.specs.Continued.{Open, in_array, in_object, at_value, at_name, after_value}
-use Rattle.simd_json_stages.specs.Building.{closer, is_closing, header_of, frames, top, patch, Headed, Holds, HoldsValue, HoldsMembers}
+use Rattle.simd_json_stages.specs.Building.{closer, header_of, frames, top, patch, Headed, Holds, HoldsValue, HoldsMembers}
 use Rattle.simd_json_stages.specs.Building.{closed_with, missing, whole, AtValue, AtName, AfterValue, AtMemberOf, AtMember}
 use Rattle.simd_json_stages.specs.Building.{IsBuilt, IsWritten, IsFirstFault}
 use Rattle.simd_json_stages.specs.Progresses.{IsNext}

@@ -4,7 +4,7 @@ use Rattle.std.proofs.Common.{length-append, length, get_or, take, drop, cond, a
 use Rattle.std.specs.Prelude.{Ok, Err, if◌then◌else◌}
 use Rattle.std.proofs.lemmas.List.{append-nil}
 use Rattle.std.proofs.Math.Seq.{take-append_seam, drop-length}
-use Rattle.simd_json_parts.specs.Bytes.{byte_at}
+use Rattle.simd_json_parts.specs.Bytes.{byte_at, is_closing}
 use Rattle.simd_json_parts.specs.Document.{Document}
 use Rattle.simd_json_parts.specs.Nodes.{Item}
 use Rattle.simd_json_parts.specs.Descent.{◌>>=◌, is_container, last_index, last_read, root_end}
@@ -16,7 +16,7 @@ use Rattle.simd_json_parts.specs.declared.error.ErrorType.{ErrorType}
 use Rattle.simd_json_parts.specs.declared.error.ErrorType.TheVariants.{Syntax, InternalError, ExpectedObjectKey}
 use Rattle.simd_json_parts.specs.declared.error.ErrorType.TheVariants.{TrailingData}
 use Rattle.simd_json_stages.specs.Continued.{Open, in_array, in_object, at_value, at_name, after_value}
-use Rattle.simd_json_stages.specs.Building.{closer, content_kind, end_kind, is_closing, frames, HoldsValue, missing, whole, AtValue, AtName}
+use Rattle.simd_json_stages.specs.Building.{closer, content_kind, end_kind, frames, HoldsValue, missing, whole, AtValue, AtName}
 use Rattle.simd_json_stages.specs.Building.{AfterValue, IsFirstFault}
 use Rattle.simd_json_stages.specs.Progresses.{IsNext}
 use Rattle.simd_json_stages.specs.Put.{IsBadString, IsNoScalar, IsStringPut}

@@ -4,7 +4,7 @@ use Rattle.std.proofs.Common.{◌&&◌, ◌==◌, nat_le}
 use Rattle.std.specs.Prelude.{Result, if◌then◌else◌}
 use Rattle.std.proofs.lemmas.Bool.{cond_both, eqb-true, ne_eqb, or_from}
 use Rattle.std.proofs.lemmas.List.{drop_more}
-use Rattle.simd_json_parts.specs.Bytes.{byte_at}
+use Rattle.simd_json_parts.specs.Bytes.{byte_at, is_closing}
 use Rattle.simd_json_parts.specs.Document.{Document}
 use Rattle.simd_json_parts.specs.Tokens.{Token, Form, begin_array, end_array, begin_object, end_object, name_separator, value_separator}
 use Rattle.simd_json_parts.specs.Tokens.{string_token, scalar, stray, form_of, form_at}
@@ -12,7 +12,6 @@ use Rattle.simd_json_parts.specs.Descent.{last_index}
 use Rattle.simd_json_parts.specs.StringAt.{string_at}
 use Rattle.simd_json_parts.specs.TokensAlong.{goes_on, tokens_along}
 use Rattle.simd_json_parts.specs.declared.error.Error.{Error}
-use Rattle.simd_json_stages.specs.Building.{is_closing}
 use Rattle.simd_json_stages.specs.Put.{begins_value}
 use Rattle.simd_json_stages.proofs.Tokens.Places.{token}
 use Rattle.simd_json_stages.proofs.Tokens.ScalarLaws.{is_no_scalar}

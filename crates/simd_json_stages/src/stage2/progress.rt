@@ -6,8 +6,8 @@
 //! here `Step`, `Following` and `NextMember` say where to go on.
 ghost use Rattle.std.specs.Prelude.{◌≡◌, ◌≢◌, ◌<◌, ◌≤◌, ◌+◌, length, get_or};
 ghost use Rattle.std.specs.Prelude.{IfOk, IfErr, IsTrue, IsFalse};
-ghost use Rattle.simd_json_parts.specs.Bytes.{byte_at};
-ghost use Rattle.simd_json_stages.specs.Building.{end_kind, is_closing};
+ghost use Rattle.simd_json_parts.specs.Bytes.{byte_at, is_closing};
+ghost use Rattle.simd_json_stages.specs.Building.{end_kind};
 ghost use Rattle.simd_json_stages.specs.Members.{AfterToken};
 ghost use Rattle.simd_json_stages.specs.Progresses.{IsNext};
 

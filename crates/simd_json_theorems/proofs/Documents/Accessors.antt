@@ -3,7 +3,7 @@ use Rattle.std.proofs.Common.{◌≡◌, ℕ, List, Some, None, Ok, Err}
 use Rattle.std.specs.Prelude.{◌↔◌, Option, ok_or, option_and_then}
 use Rattle.simd_json_parts.specs.Accessors.{Accessor, as_t, try_as_t, get_t, try_get_t}
 use Rattle.simd_json_parts.specs.Document.{Document, object}
-use Rattle.simd_json_parts.specs.Views.{first_with, mismatch, some_ok, try_at}
+use Rattle.simd_json_parts.specs.Views.{first_with, mismatch, ok_map, try_at}
 use Rattle.simd_json_parts.specs.declared.node.TryTypeError.{TryTypeError}
 
 module _ {A : Type 0} where
@@ -11,7 +11,7 @@ module _ {A : Type 0} where
   value-or (Some y) e x = (λ h. cc, λ h. cc)
   value-or None e x = (λ h. cc, λ h. cc)
 
-  some-or : (o : Option A) (e : TryTypeError) (x : A) → (some_ok (ok_or o e) ≡ Ok (Some x)) ↔ (o ≡ Some x)
+  some-or : (o : Option A) (e : TryTypeError) (x : A) → (ok_map (λ y. Some y) (ok_or o e) ≡ Ok (Some x)) ↔ (o ≡ Some x)
   some-or (Some y) e x = (λ h. cc, λ h. cc)
   some-or None e x = (λ h. cc, λ h. cc)
 

@@ -8,11 +8,10 @@ use simd_json_parts::node::{Node, StaticNode, TryTypeError, ValueType};
 
 impl<'tape, 'input> Value<'tape, 'input> {
     ghost use Rattle.std.specs.Prelude.{◌≡◌, ok_or, option_map};
-    ghost use Rattle.simd_json.specs.Answered.{ok_map};
     ghost use Rattle.simd_json.specs.Viewed.{doc};
     ghost use Rattle.simd_json_parts.specs.Accessors as accessors;
     ghost use Rattle.simd_json_parts.specs.Accessors.{as_t, try_as_t};
-    ghost use Rattle.simd_json_parts.specs.Views.{mismatch};
+    ghost use Rattle.simd_json_parts.specs.Views.{mismatch, ok_map};
 
     /// `Some` if the value is null, else `None`.
     pub fn as_null(&self) -> Option<()>

@@ -1,6 +1,6 @@
 //! An array of a tape, and the iterator over its values.
 ghost use Rattle.std.specs.Prelude.{◌≡◌, map, length};
-ghost use Rattle.simd_json.specs.Documents.{AreElements, elements_of};
+ghost use Rattle.simd_json.specs.Documents.{AreElementNodes, elements_of};
 ghost use Rattle.simd_json.specs.Printable.{ArePrintable};
 ghost use Rattle.simd_json_parts.specs.Document.{elements};
 ghost use Rattle.simd_json_parts.specs.Nodes.{item_of};
@@ -14,7 +14,7 @@ use std::iter::FusedIterator;
 pub struct Array<'tape, 'input> {
     pub(super) len: usize,
     pub(super) nodes: &'tape [Node<'input>],
-    ghost listed: { AreElements (map item_of nodes.now) },
+    ghost listed: { AreElementNodes (map item_of nodes.now) },
     ghost printable: { ArePrintable nodes.now },
     ghost counted: { len ≡ length (elements (elements_of (map item_of nodes.now))) },
 }

@@ -1,6 +1,6 @@
 //! The iterator over a value and the values beneath it.
 ghost use Rattle.std.specs.Prelude.{◌≡◌, ◌≤◌, map};
-ghost use Rattle.simd_json.specs.Documents.{AreElements};
+ghost use Rattle.simd_json.specs.Documents.{AreElementNodes};
 ghost use Rattle.simd_json.specs.Printable.{ArePrintable};
 ghost use Rattle.simd_json_parts.specs.Nodes.{item_of};
 
@@ -12,14 +12,14 @@ use std::iter::FusedIterator;
 #[derive(Clone, Copy, Debug)]
 struct Row<'tape, 'input> {
     nodes: &'tape [Node<'input>],
-    ghost listed: { AreElements (map item_of nodes.now) },
+    ghost listed: { AreElementNodes (map item_of nodes.now) },
     ghost printable: { ArePrintable nodes.now },
 }
 
 impl<'tape, 'input> Row<'tape, 'input> {
     ghost use Rattle.std.specs.Prelude.{◌≡◌, ◌≢◌, ◌<◌, ◌^◌, length};
     ghost use Rattle.std.specs.Prelude.{MatchOption};
-    ghost use Rattle.simd_json.specs.Descending.{in_row, entered};
+    ghost use Rattle.simd_json.specs.Descending.{in_row, unpacked};
     ghost use Rattle.simd_json.specs.Documents.{other_elements};
     ghost use Rattle.simd_json.specs.Viewed.{doc};
     ghost use Rattle.simd_json_parts.specs.Document.{no_elements, element};
@@ -60,7 +60,7 @@ impl<'tape, 'input> Row<'tape, 'input> {
     // The documents in the first one, then the others.
     fn enter(self) -> Row<'tape, 'input>
         requires { in_row self ≢ no_elements }
-        ensures { in_row result ≡ entered (in_row self.entry) }
+        ensures { in_row result ≡ unpacked (in_row self.entry) }
     {
         let (_, nodes) = self.nodes.split_at(1);
         Row { nodes }
@@ -79,7 +79,7 @@ impl Level {
     ghost use Rattle.std.specs.Prelude.{List, [], suc, drop, flat_map, length, IfSome, MatchOption};
     ghost use Rattle.std.specs.Prelude.{slice_get};
     ghost use Rattle.simd_json.specs.Beneath.{beneath, children};
-    ghost use Rattle.simd_json.specs.Descending.{left_in, entered};
+    ghost use Rattle.simd_json.specs.Descending.{left_by, unpacked};
     ghost use Rattle.simd_json.specs.Viewed.{doc};
     ghost use Rattle.simd_json.specs.declared.value.tape.descendants.Level.{Level};
     ghost use Rattle.simd_json_parts.specs.Document.{Elements, element};
@@ -88,8 +88,8 @@ impl Level {
     fn of(value: &Value<'_, '_>) -> Option<Level>
         ensures { MatchOption result (children (doc value.now) ≡ [])
             (λ l. (n : ℕ) (ls : List Level) (ds : Elements)
-            → left_in n (l ∷ ls) (entered (element (doc value.now) ds))
-            ≡ flat_map (beneath n) (children (doc value.now)) ++ left_in (suc n) ls ds) }
+            → left_by n (l ∷ ls) (unpacked (element (doc value.now) ds))
+            ≡ flat_map (beneath n) (children (doc value.now)) ++ left_by (suc n) ls ds) }
     {
         if let Some(array) = value.as_array() {
             return Some(Level {
@@ -110,8 +110,8 @@ impl Level {
         ensures within { result ≤ length levels.now }
         ensures some { IfSome (slice_get levels.now result) (λ l. 0 < l.left) }
         ensures same { (ds : Elements)
-            → left_in from (drop from levels.now) ds
-            ≡ left_in result (drop result levels.now) ds }
+            → left_by from (drop from levels.now) ds
+            ≡ left_by result (drop result levels.now) ds }
     {
         let mut index = from;
         while index < levels.len() && levels[index].left == 0 {
@@ -132,7 +132,7 @@ struct Levels<const DEPTH: usize> {
 impl<const DEPTH: usize> Levels<DEPTH> {
     ghost use Rattle.std.specs.Prelude.{◌≡◌, ◌∷◌, ◌++◌, cond};
     ghost use Rattle.simd_json.specs.Beneath.{beneath};
-    ghost use Rattle.simd_json.specs.Descending.{left_open, left_begun, entered};
+    ghost use Rattle.simd_json.specs.Descending.{left_open, left_begun, unpacked};
     ghost use Rattle.simd_json.specs.Documents.{other_elements};
     ghost use Rattle.simd_json.specs.Viewed.{doc};
     ghost use Rattle.simd_json_parts.specs.Document.{Elements, element};
@@ -157,7 +157,7 @@ impl<const DEPTH: usize> Levels<DEPTH> {
         ensures { (ds : Elements)
             → beneath self.old.innermost (doc value.now) ++ left_open self.old ds
             ≡ doc value.now ∷ left_open self.new
-            (cond result (entered (element (doc value.now) ds)) ds) }
+            (cond result (unpacked (element (doc value.now) ds)) ds) }
     {
         if self.innermost == 0 {
             return false;

@@ -1,6 +1,6 @@
 //! An object of a tape, and the iterators over its pairs, its keys and its values.
 ghost use Rattle.std.specs.Prelude.{◌≡◌, map, length};
-ghost use Rattle.simd_json.specs.Documents.{AreMembers, members_of};
+ghost use Rattle.simd_json.specs.Documents.{AreMemberNodes, members_of};
 ghost use Rattle.simd_json.specs.Printable.{ArePrintable};
 ghost use Rattle.simd_json_parts.specs.Document.{members};
 ghost use Rattle.simd_json_parts.specs.Nodes.{item_of};
@@ -16,7 +16,7 @@ use std::iter::FusedIterator;
 pub struct Object<'tape, 'input> {
     pub(super) len: usize,
     pub(super) nodes: &'tape [Node<'input>],
-    ghost listed: { AreMembers (map item_of nodes.now) },
+    ghost listed: { AreMemberNodes (map item_of nodes.now) },
     ghost printable: { ArePrintable nodes.now },
     ghost counted: { len ≡ length (members (members_of (map item_of nodes.now))) },
 }

@@ -10,12 +10,13 @@ mod lookup;
 use crate::value::tape::Value;
 use lookup::child;
 pub use simd_json_parts::pointer::{Pointer, PointerError, PointerExpected};
-use simd_json_parts::pointer::{is_plain, next_token, stop};
+use simd_json_parts::pointer::{Parent, follow, is_plain, stop};
+use std::convert::Infallible;
 
 impl<'tape, 'input> Value<'tape, 'input> {
     ghost use Rattle.std.specs.Prelude.{◌≡◌, option_map};
     ghost use Rattle.std.specs.Result.{result_ok};
-    ghost use Rattle.simd_json.specs.Answered.{ok_map};
+    ghost use Rattle.simd_json_parts.specs.Views.{ok_map};
     ghost use Rattle.simd_json_parts.specs.Pointed.{pointed};
     ghost use Rattle.simd_json_parts.specs.PointedText.{text};
     ghost use Rattle.simd_json.specs.Viewed.{doc};
@@ -87,16 +88,25 @@ fn walk<'tape, 'input>(value: Value<'tape, 'input>, pointer: &str) -> (Value<'ta
     ensures stopped { result.1 < length pointer.now
         → result_ok (first_step (drop result.1 pointer.now) (doc result.0)) ≡ None }
 {
-    let bytes = pointer.as_bytes();
-    let mut reached = value;
-    let mut followed = 0;
-    while let Some(token) = next_token(bytes, followed) {
-        let text = &pointer[followed + 1..token.end];
-        let Some(next) = child(reached, text, token.is_plain) else {
-            return (reached, followed);
-        };
-        reached = next;
-        followed = token.end;
+    match follow(value, pointer) {
+        Ok(led) => led,
+        Err(never) => match never {},
     }
-    (reached, followed)
+}
+
+impl<'tape, 'input> Parent for Value<'tape, 'input> {
+    ghost use Rattle.std.specs.Prelude.{◌≡◌, IfOk, option_map};
+    ghost use Rattle.std.specs.Result.{result_ok};
+    ghost use Rattle.simd_json_parts.specs.Pointed.{named};
+    ghost use Rattle.simd_json.specs.Viewed.{doc};
+
+    type Stop = Infallible;
+
+    ghost names = { λ v token found.
+        IfOk found (λ o. option_map doc o ≡ result_ok (named token (doc v))) };
+
+    #[inline(always)]
+    fn child(self, token: &str, is_plain: bool) -> Result<Option<Self>, Infallible> {
+        Ok(child(self, token, is_plain))
+    }
 }

@@ -1,7 +1,8 @@
 use Rattle.std.proofs.Common.{◌≡◌, ◌∙◌, ap, ◌+◌, ◌-◌, ◌<◌, ◌≤◌, List, ℕ, length, take, drop, map, arith}
 use lib.Count.{ones}
 use lib.Lanes.{mask_l}
-use Rattle.simd_json_ondemand.specs.Closing.{is_opening, is_closing, closed_at, first_bytes}
+use Rattle.simd_json_ondemand.specs.Closing.{closed_at, first_bytes}
+use Rattle.simd_json_parts.specs.Bytes.{is_closing, is_opening}
 use Rattle.simd_json_ondemand.proofs.Counting.{group-length, group-closed, group-open, stays-open}
 use Rattle.std.proofs.lemmas.Simd.{ones-mask_l}
 use Rattle.simd_json_ondemand.proofs.skip.close.Goals.{then-count-depth+in_default, else-count-depth}

@@ -1,4 +1,4 @@
-use Rattle.simd_json_ondemand.specs.Closing.{is_closing}
+use Rattle.simd_json_parts.specs.Bytes.{is_closing}
 use Rattle.simd_json_ondemand.proofs.Groups.{compared, test_closing}
 use Rattle.simd_json_ondemand.proofs.skip.closing.Goals as goal
 

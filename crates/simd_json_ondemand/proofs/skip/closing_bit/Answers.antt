@@ -2,7 +2,8 @@ use Rattle.std.proofs.Common.{◌≡◌, refl, ◌∙◌, ap, sym, subst, zero, 
 use Rattle.std.proofs.Common.{take, arith}
 use lib.Lanes.{mask_l}
 use lib.Count.{count_trailing_zeros}
-use Rattle.simd_json_ondemand.specs.Closing.{is_closing, open_through}
+use Rattle.simd_json_ondemand.specs.Closing.{open_through}
+use Rattle.simd_json_parts.specs.Bytes.{is_closing}
 use Rattle.simd_json_ondemand.proofs.ClosingBits.{Reached, AtClosing, at_closing, AfterClosing, after_closing, closed_there, goes_on}
 use Rattle.simd_json_ondemand.proofs.ClosingBits.{none_left, reached-first}
 use Rattle.simd_json_ondemand.proofs.LowestBits.{bits_before, trailing}

@@ -1,6 +1,6 @@
 use Rattle.std.proofs.Common.{◌≡◌, ℕ, List, length, map}
 use Rattle.std.specs.Simd.Lanes.{mask_l}
-use Rattle.simd_json_ondemand.specs.Closing.{is_opening, is_closing}
+use Rattle.simd_json_parts.specs.Bytes.{is_closing, is_opening}
 use Rattle.simd_json_ondemand.proofs.ClosingBits.{Reached}
 use Rattle.simd_json_ondemand.proofs.skip.closing_bit.Given as goal
 

@@ -1,4 +1,4 @@
-use Rattle.simd_json_ondemand.specs.Closing.{is_opening}
+use Rattle.simd_json_parts.specs.Bytes.{is_opening}
 use Rattle.simd_json_ondemand.proofs.Groups.{compared, test_opening}
 use Rattle.simd_json_ondemand.proofs.skip.opening.Goals as goal
 

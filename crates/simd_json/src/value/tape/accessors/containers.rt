@@ -4,7 +4,8 @@ use simd_json_parts::node::{TryTypeError, ValueType};
 
 impl<'tape, 'input> Value<'tape, 'input> {
     ghost use Rattle.std.specs.Prelude.{◌≡◌, option_map};
-    ghost use Rattle.simd_json.specs.Answered.{ok_map, items, entries};
+    ghost use Rattle.simd_json.specs.Answered.{items, entries};
+    ghost use Rattle.simd_json_parts.specs.Views.{ok_map};
     ghost use Rattle.simd_json.specs.Viewed.{doc};
     ghost use Rattle.simd_json_parts.specs.Accessors as accessors;
     ghost use Rattle.simd_json_parts.specs.Accessors.{as_t, try_as_t, get_t, try_get_t};

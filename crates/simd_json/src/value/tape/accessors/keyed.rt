@@ -4,7 +4,7 @@ use simd_json_parts::node::TryTypeError;
 
 impl<'tape, 'input> Value<'tape, 'input> {
     ghost use Rattle.std.specs.Prelude.{◌≡◌, option_map};
-    ghost use Rattle.simd_json.specs.Answered.{ok_map};
+    ghost use Rattle.simd_json_parts.specs.Views.{ok_map};
     ghost use Rattle.simd_json.specs.Viewed.{doc};
     ghost use Rattle.simd_json_parts.specs.Accessors as accessors;
     ghost use Rattle.simd_json_parts.specs.Accessors.{get_t, try_get_t};

@@ -1,7 +1,7 @@
 use Rattle.std.proofs.Common.{ap, sym, subst, [], ◌∷◌, ◌≡◌}
 use Rattle.std.specs.Prelude.{MatchOption}
 use Rattle.simd_json_ondemand.specs.Docs.{doc}
-use Rattle.simd_json_ondemand.specs.Iterated.{elements_left}
+use Rattle.simd_json_ondemand.specs.Iterated.{elements_to_come}
 use Rattle.simd_json_ondemand.specs.Sites.{element_sites, site}
 use Rattle.simd_json_ondemand.specs.Walked.{elements_ahead}
 use Rattle.simd_json_ondemand.specs.Walks.{came, items}
@@ -11,8 +11,8 @@ use Rattle.simd_json_ondemand.proofs.array.Array.next_value.Goals as goal
 pub returns-clause-steps : goal.returns-clause-steps
 returns-clause-steps c =
     let new = c.step.new.self in
-    subst (λ o. MatchOption o ((elements_left c.args.self.now ≡ []) × (elements_left new ≡ []))
-    (λ x. elements_left c.args.self.now ≡ doc x ∷ elements_left new)) (sym c.found.ensures)
+    subst (λ o. MatchOption o ((elements_to_come c.args.self.now ≡ []) × (elements_to_come new ≡ []))
+    (λ x. elements_to_come c.args.self.now ≡ doc x ∷ elements_to_come new)) (sym c.found.ensures)
     (yields doc (elements_ahead c.args.self.now) (elements_ahead new) _ c.step.result (ap elements_ahead) c.step.ensures.steps)
 
 pub returns-clause-ahead : goal.returns-clause-ahead

@@ -1,6 +1,6 @@
 use Rattle.std.proofs.Common.{◌≡◌, [], ◌∙◌, ap, sym, subst}
 use Rattle.std.specs.Prelude.{MatchOption, option_map}
-use Rattle.simd_json_ondemand.specs.Iterated.{all_some, elements_left}
+use Rattle.simd_json_ondemand.specs.Iterated.{all_some, elements_to_come}
 use Rattle.simd_json_ondemand.specs.Sites.{element_sites, array_sites}
 use Rattle.simd_json_ondemand.specs.Stopped.{error_at}
 use Rattle.simd_json_ondemand.specs.Walked.{elements_ahead}
@@ -11,7 +11,7 @@ use Rattle.simd_json_ondemand.proofs.value.Value.as_array.Goals as goal
 
 pub returns-clause-document : goal.returns-clause-document
 returns-clause-document c = λ d h.
-    ap (option_map elements_left) c.ok.ensures.value ∙ left-of-whole elements_ahead all_some _ _ (c.elements.ensures.all d h)
+    ap (option_map elements_to_come) c.ok.ensures.value ∙ left-of-whole elements_ahead all_some _ _ (c.elements.ensures.all d h)
 
 pub returns-clause-all : goal.returns-clause-all
 returns-clause-all c = λ d h. ap (option_map elements_ahead) c.ok.ensures.value ∙ c.elements.ensures.all d h

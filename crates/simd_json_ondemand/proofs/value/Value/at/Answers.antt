@@ -9,7 +9,7 @@ use Rattle.simd_json_parts.specs.Pointed.{named, pointed}
 use Rattle.simd_json_parts.proofs.Pointers.Pointed.{boundary, stuck-at-token}
 use Rattle.simd_json_parts.proofs.Pointers.Splitting.{kept-all, kept-next}
 use Rattle.simd_json_ondemand.specs.Docs.{doc}
-use Rattle.simd_json_ondemand.specs.Reached.{followed_at, go_on, named_at, pointed_at}
+use Rattle.simd_json_ondemand.specs.Reached.{followed_at, reach_further, named_at, pointed_at}
 use Rattle.simd_json_ondemand.specs.Sites.{site}
 use Rattle.simd_json_ondemand.specs.Stopped.{told}
 use Rattle.simd_json_ondemand.specs.Walks.{found}
@@ -60,7 +60,7 @@ returns-in_err-reached-clause-walk g c =
     let next = kept-next p l.at l.end-index c.ends-ends.result.now l.invariant.begins (omega arith) l.invariant.split in
     ap (option_map site) c.from_residual.ensures ∙ sym (leads-nowhere c.child.result _ c.in_err-reached.ensures)
     ∙ ap found (sym (l.invariant.ahead ∙ on-token p l.at end next.at (site l.reached)
-    ∙ ap (λ r. go_on r (followed_at (tokens_after (drop end p))))
+    ∙ ap (λ r. reach_further r (followed_at (tokens_after (drop end p))))
     (ap (λ t. named_at t (site l.reached)) (sym c.range-token.ensures.value) ∙ sym c.child.ensures)))
     ∙ ap (λ t. found (pointed_at t (site c.args.self))) c.as_str-text.ensures
 
@@ -82,7 +82,7 @@ loop-end-preserved g c =
           (λ e r. (is-step (slice_range p (l.at + 1) end) l.reached e r (Ok (Some reached)) step).finds);
       ahead =
           l.invariant.ahead ∙ on-token p l.at end next.at (site l.reached)
-          ∙ ap (λ r. go_on r (followed_at (tokens_after (drop end p)))) (sym step) ∙ on-behind p l.at end next.at (site reached);
+          ∙ ap (λ r. reach_further r (followed_at (tokens_after (drop end p)))) (sym step) ∙ on-behind p l.at end next.at (site reached);
     }
 
 pub returns-clause-document : goal.returns-clause-document

@@ -2,7 +2,7 @@ use Rattle.std.proofs.Common.{refl, sym, ◌∙◌, ap}
 use Rattle.simd_json_ondemand.specs.Reached.{key_reached}
 use Rattle.simd_json_ondemand.specs.Sites.{member_sites, object_sites}
 use Rattle.simd_json_ondemand.specs.Stopped.{error_at}
-use Rattle.simd_json_ondemand.specs.Walked.{first_with, members_ahead}
+use Rattle.simd_json_ondemand.specs.Walked.{member_with, members_ahead}
 use Rattle.simd_json_ondemand.proofs.Sites.{key-stop}
 use Rattle.simd_json_ondemand.proofs.WalkViews.{found-with, stopped-with}
 use Rattle.simd_json_ondemand.proofs.value.Value.member.Goals as goal
@@ -10,12 +10,12 @@ use Rattle.simd_json_ondemand.proofs.value.Value.member.Goals as goal
 pub returns-in-Ok-clause-walk : goal.returns-in-Ok-clause-walk
 returns-in-Ok-clause-walk c =
     found-with c.new.result.key.now c.find_left.result _ _ _ c.find_left.ensures.found
-    ∙ ap (λ k. first_with k (members_ahead c.in-Ok.members)) c.new.ensures ∙ ap (first_with c.args.key.now) (sym c.in-Ok.ensures.walk)
+    ∙ ap (λ k. member_with k (members_ahead c.in-Ok.members)) c.new.ensures ∙ ap (member_with c.args.key.now) (sym c.in-Ok.ensures.walk)
 
 pub returns-in-Err-clause-walk : goal.returns-in-Err-clause-walk
 returns-in-Err-clause-walk c =
     let key = c.args.key.now in
-    sym (ap (first_with key) c.in-Err.ensures.walk ∙ stopped-with key (error_at c.in-Err.stop))
+    sym (ap (member_with key) c.in-Err.ensures.walk ∙ stopped-with key (error_at c.in-Err.stop))
 
 pub returns-in-Ok-clause-site : goal.returns-in-Ok-clause-site
 returns-in-Ok-clause-site c =

@@ -1,6 +1,5 @@
 use Rattle.std.proofs.Common.{◌≡◌, ◌∙◌, sym, ap, true, false}
-use Rattle.simd_json_parts.specs.Bytes.{byte_at}
-use Rattle.simd_json_ondemand.specs.Closing.{is_opening}
+use Rattle.simd_json_parts.specs.Bytes.{byte_at, is_opening}
 use Rattle.simd_json_ondemand.specs.Docs.{text, index_of}
 use Rattle.simd_json_ondemand.proofs.Written.{returned, enclosed-some, literal-some}
 use Rattle.simd_json_ondemand.proofs.value.Value.raw.Goals as goal

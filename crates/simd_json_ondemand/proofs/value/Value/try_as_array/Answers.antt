@@ -1,7 +1,7 @@
 use Rattle.std.proofs.Common.{◌≡◌, ◌∙◌, ap, sym, subst}
 use Rattle.std.specs.Prelude.{MatchResult, option_map}
 use Rattle.std.specs.Result.{result_ok}
-use Rattle.simd_json_ondemand.specs.Iterated.{all_some, elements_left}
+use Rattle.simd_json_ondemand.specs.Iterated.{all_some, elements_to_come}
 use Rattle.simd_json_ondemand.specs.Sites.{element_sites, array_sites}
 use Rattle.simd_json_ondemand.specs.Walked.{array_walk, elements_ahead}
 use Rattle.simd_json_ondemand.specs.Walks.{stopped}
@@ -23,7 +23,7 @@ returns-clause-sites c =
 
 pub returns-clause-document : goal.returns-clause-document
 returns-clause-document c = λ d h.
-    ap (option_map elements_left) (ap result_ok c.told.ensures ∙ told-ok c.elements.result)
+    ap (option_map elements_to_come) (ap result_ok c.told.ensures ∙ told-ok c.elements.result)
     ∙ left-of-whole elements_ahead all_some _ _ (c.elements.ensures.all d h)
 
 pub returns-clause-all : goal.returns-clause-all

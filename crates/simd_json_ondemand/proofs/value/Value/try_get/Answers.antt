@@ -3,7 +3,7 @@ use Rattle.std.specs.Prelude.{option_map}
 use Rattle.std.specs.Result.{result_ok}
 use Rattle.simd_json_ondemand.specs.Docs.{doc}
 use Rattle.simd_json_ondemand.specs.Sites.{site}
-use Rattle.simd_json_ondemand.specs.Walks.{ok_map}
+use Rattle.simd_json_parts.specs.Views.{ok_map}
 use Rattle.simd_json_ondemand.proofs.Told.{told-map}
 use Rattle.simd_json_ondemand.proofs.WalkViews.{get-found}
 use Rattle.simd_json_ondemand.proofs.value.Value.try_get.Goals as goal

@@ -2,7 +2,8 @@ use Rattle.std.proofs.Common.{◌∙◌, ap}
 use Rattle.std.specs.Prelude.{option_map}
 use Rattle.simd_json_ondemand.specs.Docs.{doc}
 use Rattle.simd_json_ondemand.specs.Sites.{site}
-use Rattle.simd_json_ondemand.specs.Walks.{found, ok_map}
+use Rattle.simd_json_ondemand.specs.Walks.{found}
+use Rattle.simd_json_parts.specs.Views.{ok_map}
 use Rattle.simd_json_ondemand.proofs.Told.{found-in-told, told-map}
 use Rattle.simd_json_ondemand.proofs.value.Value.try_pointer.Goals as goal
 

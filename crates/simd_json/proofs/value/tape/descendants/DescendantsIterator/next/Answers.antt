@@ -1,5 +1,5 @@
 use Rattle.std.proofs.Common.{◌≡◌, ◌∙◌, ap, sym, Bool, cond, drop}
-use Rattle.simd_json.specs.Descending.{in_row, left_open, left_in}
+use Rattle.simd_json.specs.Descending.{in_row, left_open, left_by}
 use Rattle.simd_json.specs.Documents.{other_elements}
 use Rattle.simd_json_parts.specs.Document.{Elements}
 use Rattle.simd_json.proofs.Views.Descending.{IsStep, none-left, left-none}
@@ -21,5 +21,5 @@ returns-in_default-clause-steps g c =
     let step : IsStep (left_open old.levels) levels.innermost ls c.begin_member.result all (in_row c.if-begin_member.self) =
     record { levels = c.begin_member.ensures; row = row } in (
       none-left _ _ _ _ all _ step c.in_default.ensures,
-      ap (left_in levels.innermost ls) c.in_default.ensures ∙ left-none levels.innermost ls,
+      ap (left_by levels.innermost ls) c.in_default.ensures ∙ left-none levels.innermost ls,
     )

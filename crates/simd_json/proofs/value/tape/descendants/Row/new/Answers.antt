@@ -1,6 +1,6 @@
 use Rattle.std.proofs.lemmas.List.{length-map}
 use Rattle.std.proofs.Common.{arith, length, ◌∙◌, ap, map, subst, sym}
-use Rattle.simd_json.specs.Documents.{AreElements, elements_of}
+use Rattle.simd_json.specs.Documents.{AreElementNodes, elements_of}
 use Rattle.simd_json.specs.Printable.{ArePrintable}
 use Rattle.simd_json_parts.specs.Nodes.{item_of}
 use Rattle.simd_json.proofs.Views.Descending.{row-of}
@@ -8,7 +8,7 @@ use Rattle.simd_json.proofs.value.tape.descendants.Row.new.Goals as goal
 
 pub invariant_of-result : goal.invariant_of-result
 invariant_of-result c = record {
-  listed = subst (λ xs. AreElements (map item_of xs)) (sym c.nodes.ensures.nodes) (row-of _ c.args.value.listed).listed;
+  listed = subst (λ xs. AreElementNodes (map item_of xs)) (sym c.nodes.ensures.nodes) (row-of _ c.args.value.listed).listed;
   printable = subst ArePrintable (sym c.nodes.ensures.nodes) c.args.value.printable;
 }
 

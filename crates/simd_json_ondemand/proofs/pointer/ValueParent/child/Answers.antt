@@ -5,7 +5,7 @@ use Rattle.simd_json_ondemand.specs.Reached.{element_reached, member_reached}
 use Rattle.simd_json_ondemand.specs.Sites.{array_sites, member_sites, object_sites}
 use Rattle.simd_json_ondemand.specs.Stopped.{error_at}
 use Rattle.simd_json_ondemand.proofs.Sites.{array-named, no-member, object-named, other-named, to-stop, unescaped-plain}
-use Rattle.simd_json_ondemand.proofs.value.Value.child.Goals as goal
+use Rattle.simd_json_ondemand.proofs.pointer.ValueParent.child.Goals as goal
 
 pub returns-in-Some : goal.returns-in-Some
 returns-in-Some c =
