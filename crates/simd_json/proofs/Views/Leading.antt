@@ -3,6 +3,7 @@ use Rattle.std.proofs.Common.{◌≡◌, ◌≢◌, ◌<◌, ◌+◌, ◌∙◌,
 use Rattle.std.specs.Prelude.{Option, None, Result, Ok, IfOk, option_map}
 use Rattle.std.specs.List.{slice_range}
 use Rattle.std.specs.Result.{result_ok}
+use Rattle.std.specs.declared.convert.Infallible.{Infallible}
 use Rattle.simd_json_parts.specs.Followed.{IsTokenAt, first_step}
 use Rattle.simd_json_parts.specs.Led.{LeadsBy, StopsAt}
 use Rattle.simd_json_parts.specs.Pointed.{named, pointed_from}
@@ -10,16 +11,16 @@ use Rattle.simd_json_parts.proofs.Pointers.Pointed.{further, stuck-at-token, stu
 use Rattle.simd_json.specs.Viewed.{doc}
 use Rattle.simd_json.specs.declared.value.tape.value.Value.{Value}
 
-abbrev pub Named : {E : Type 0} → Value → List ℕ → Result (Option Value) E → Type 0
+abbrev pub Named : Value → List ℕ → Result (Option Value) Infallible → Type 0
 Named v token found = IfOk found (λ o. option_map doc o ≡ result_ok (named token (doc v)))
 
-module _ {E : Type 0} (p : List ℕ) where
-  pub led : (i : ℕ) (v : Value) (steps : List (ℕ × Value)) (j : ℕ) (w : Value) → LeadsBy (Named {E = E}) p i v steps j w
+module _ (p : List ℕ) where
+  pub led : (i : ℕ) (v : Value) (steps : List (ℕ × Value)) (j : ℕ) (w : Value) → LeadsBy Named p i v steps j w
       → pointed_from i (drop i p) (doc v) ≡ pointed_from j (drop j p) (doc w)
   led i v [] j w is = ap (λ k. pointed_from k (drop k p) (doc v)) is.0 ∙ ap (λ x. pointed_from j (drop j p) (doc x)) is.1
   led i v ((e, u) ∷ steps) j w is = further p i e (doc v) (doc u) is.0 (sym is.1) ∙ led e u steps j w is.2
 
-  pub stopped : (i : ℕ) (v : Value) → StopsAt (Named {E = E}) p i v → i < length p → result_ok (first_step (drop i p) (doc v)) ≡ None
+  pub stopped : (i : ℕ) (v : Value) → StopsAt Named p i v → i < length p → result_ok (first_step (drop i p) (doc v)) ≡ None
   stopped i v stops less = by (stops less)
     where
       by : (get_or p i 0 ≢ 47) ⊎ ((e : ℕ) × IsTokenAt p i e × (option_map doc None ≡ result_ok (named (slice_range p (i + 1) e) (doc v))))

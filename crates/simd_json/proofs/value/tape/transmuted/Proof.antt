@@ -31,7 +31,7 @@ use denote.Steps.{nothing, heard}
 use denote.Triple.Clauses.{Clauses, Ended, closing}
 use denote.Triple.Entry.{alive}
 use denote.Triple.Spec.{Meets, triple_of}
-use denote.Triple.Table.{unpacked}
+use denote.Triple.Table.{entered}
 use denote.Triple.Walked.{says, Stays, stay_dropped, walk_of, ends_at, walk_Meets}
 use Rattle.std.specs.declared.alloc.Allocator.{Ghosts}
 use Rattle.std.proofs.alloc.Calls.{Goes-blank, handle_tells}
@@ -166,6 +166,6 @@ unfolding tables_of
 transmuted_spec 𝓤 𝓛 𝓜 𝓡 wired A L g d dd met md =
     let 𝓣 : Tables 𝓤 𝓛.H = tables_of 𝓤 𝓛.H 𝓜 (tables 𝓤 𝓛.H 𝓜 𝓡 𝓡.env) in
     let E = ended A L g d dd in
-    unpacked 𝓤 𝓛.H (triple_of 𝓛 E.signature (closing 𝓛 E (held A L g d dd 𝓛 𝓜.mem 𝓡.returns))) 𝓣.C 𝓣.Λ
+    entered 𝓤 𝓛.H (triple_of 𝓛 E.signature (closing 𝓛 E (held A L g d dd 𝓛 𝓜.mem 𝓡.returns))) 𝓣.C 𝓣.Λ
     (#self (args A L g d dd)) (function A L g d dd)
     (code.unfolded 𝓤 𝓛.H 𝓜 𝓡 wired (A, tt) d dd) (meets A L g d dd 𝓛 𝓜.mem 𝓡.returns 𝓣)
