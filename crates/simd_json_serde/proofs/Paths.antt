@@ -1,9 +1,9 @@
 -- The way to a node, along the nodes of a document.
 use Rattle.std.proofs.Common.{◌≡◌, ◌≤◌, ◌<◌, ◌+◌, ◌-◌, ◌∙◌, ap, sym, subst, refl, true, false, arith, ℕ, zero, suc, Bool, List, [], ◌∷◌, ◌++◌}
-use Rattle.std.proofs.Common.{map, drop, length, slice_get, Option, Some, None, get_or}
+use Rattle.std.proofs.Common.{map, drop, length, slice_get, Some, None, get_or}
 use Rattle.std.specs.Prelude.{is_some, option_and_then}
 use Rattle.std.proofs.lemmas.Option.{get_or_from_slice_get, slice_get_read}
-use Rattle.std.specs.Prelude.{cond, ◌==◌, ◌||◌, nat_lt}
+use Rattle.std.specs.Prelude.{cond, ◌==◌, ◌||◌}
 use Rattle.std.proofs.Math.Seq.{drop-append_seam}
 use Rattle.std.proofs.lemmas.List.{append_assoc, append-nil, drop-drop, drop-map, length-append, length-drop, length-map}
 use Rattle.std.proofs.lemmas.Bool.{le-ltb, lt-ltb, false≢true, ne_eqb}
