@@ -19,7 +19,7 @@ use Rattle.simd_json_serde.specs.declared.error.Error.TheVariants.{Parse, Mismat
 use Rattle.simd_json_serde.specs.declared.error.Fault.{Fault}
 use Rattle.simd_json_serde.specs.declared.error.MismatchKind.{MismatchKind}
 use Rattle.simd_json_serde.specs.declared.error.MismatchKind.TheVariants.{OutOfMemory}
-use Rattle.simd_json_serde.specs.Ahead.{ahead, truth, number, signed, unsigned, float, text, as_float}
+use Rattle.simd_json_serde.specs.Ahead.{ahead, truth, signed, unsigned, float, text, as_float}
 
 -- a reader's first place in these nodes
 abbrev pub first_place : List Node → Place

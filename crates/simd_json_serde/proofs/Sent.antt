@@ -14,31 +14,33 @@ use Rattle.simd_json_theorems.proofs.Printing.Again.{utf8-printed}
 use Rattle.simd_json_theorems.proofs.Printing.Texts.{Denotes-compact, Denotes-pretty}
 use Rattle.simd_json_serde.specs.declared.draft.Draft.{Draft}
 use Rattle.simd_json_serde.specs.declared.draft.Place.{Place}
-use Rattle.simd_json_serde.specs.declared.draft.Place.TheVariants.{Start, FirstElement, NextElement, FirstKey, NextKey, Member, End, Failed}
+use Rattle.simd_json_serde.specs.declared.draft.Place.TheVariants.{Start, FirstElement, NextElement, FirstKey}
+use Rattle.simd_json_serde.specs.declared.draft.Place.TheVariants.{NextKey, Member, End, Failed}
 use Rattle.simd_json_serde.specs.declared.write_error.WriteError.{WriteError}
 use Rattle.simd_json_serde.specs.declared.write_error.WriteError.TheVariants.{NotFinite, KeyKind, Misplaced, Custom, OutOfMemory, Io}
 use Rattle.simd_json_serde.specs.Noted.{then}
 use Rattle.simd_json_serde.specs.Written.{Part, whole, elements_part, members_part, named_part}
-use Rattle.simd_json_serde.specs.Written.{HasWritten, Steps, Sets, with_value, with_end, with_scalar, place_of, before}
-use Rattle.simd_json_serde.specs.Sent.{State, state, start, open_count, Moves, TakesUnit, TakesMap, Takes, TakesAll, IsSent, IsDocumentOf}
+use Rattle.simd_json_serde.specs.Written.{HasParts, Steps, Sets, with_value, with_end, with_scalar, draft_place, before}
+use Rattle.simd_json_serde.specs.Sent.{State, state, start, open_count, MovesParts}
+use Rattle.simd_json_serde.specs.Sent.{TakesUnit, TakesMap, TakesEvent, TakesAll, IsSent, IsDocumentOf}
 use Rattle.simd_json_serde.specs.Sent.{IsTextOfEvents, IsPrinted}
 use Rattle.simd_json_serde.specs.WrittenOut.{WritesText}
 use Rattle.simd_json_serde.proofs.Writes.{last-of}
 
 -- ---- one more event
 
-one_more : (first : State) (es : List Event) (old : State) (e : Event) (new : State) → TakesAll first es old → Takes old e new
+one_more : (first : State) (es : List Event) (old : State) (e : Event) (new : State) → TakesAll first es old → TakesEvent old e new
     → TakesAll first (es ++ e ∷ []) new
-one_more first [] old e new all step = (new, subst (λ s. Takes s e new) all step, refl)
+one_more first [] old e new all step = (new, subst (λ s. TakesEvent s e new) all step, refl)
 one_more first (x ∷ es) old e new all step = (all.0, all.1, one_more all.0 es old e new all.2 step)
 
-logged : (log : Log) (old : State) (e : Event) (new : State) → IfSome log (λ es. TakesAll start es old) → Takes old e new
+logged : (log : Log) (old : State) (e : Event) (new : State) → IfSome log (λ es. TakesAll start es old) → TakesEvent old e new
     → IfSome (then log e) (λ es. TakesAll start es new)
 logged None old e new all step = tt
 logged (Some es) old e new all step = one_more start es old e new all step
 
 sent-step : {n : ℕ} (step : List Part → List Part) (old new : Draft n) (at to : List Part → State) (e : Event) (log : Log)
-    → Steps step old new → ((parts : List Part) → HasWritten old parts → Takes (at parts) e (to (step parts)))
+    → Steps step old new → ((parts : List Part) → HasParts old parts → TakesEvent (at parts) e (to (step parts)))
     → IsSent old at log → IsSent new to (then log e)
 sent-step step old new at to e log steps takes (inl failed) = absurd (steps.live failed)
 sent-step step old new at to e log steps takes (inr h) =
@@ -47,7 +49,7 @@ sent-step step old new at to e log steps takes (inr h) =
 -- by a step of the draft
 pub sent : {n : ℕ} {E : Type 0} (r : Result Unit E) (step : List Part → List Part) (old new : Draft n) (at to : List Part → State)
     (e : Event) (log next : Log) → next ≡ then log e → OnOk r (Steps step old new) → OnErr r (new.place ≡ Failed)
-    → ((parts : List Part) → HasWritten old parts → Takes (at parts) e (to (step parts)))
+    → ((parts : List Part) → HasParts old parts → TakesEvent (at parts) e (to (step parts)))
     → ∥ IsSent old at log ∥₁ → ∥ IsSent new to next ∥₁
 sent (Ok u) step old new at to e log next is steps failed takes all =
     subst (λ l. ∥ IsSent new to l ∥₁) (sym is) (∥∥₁_map all (sent-step step old new at to e log steps takes))
@@ -59,7 +61,7 @@ pub float-sent : {n : ℕ} {E : Type 0} (r : Result Unit E) (f : Format) (x : Fl
     → OnOk r ((literal : List ℕ) × (parse_float f literal ≡ Some x) × Sets at_key (decimal literal) literal old new)
     → OnErr r (new.place ≡ Failed)
     → ((literal : List ℕ) (parts : List Part) → parse_float f literal ≡ Some x
-    → Takes (at parts) e (to (with_scalar at_key (decimal literal) literal parts)))
+    → TakesEvent (at parts) e (to (with_scalar at_key (decimal literal) literal parts)))
     → ∥ IsSent old at log ∥₁ → ∥ IsSent new to next ∥₁
 float-sent {n} {E} (Ok u) f x at_key old new at to e log next is set failed takes all =
     sent {E = E} (Ok u) (with_scalar at_key (decimal set.0) set.0) old new at to e log next is set.2 failed
@@ -68,12 +70,12 @@ float-sent (Err y) f x at_key old new at to e log next is set failed takes all =
 
 -- by a mark of the writer
 mark : {n : ℕ} (w : Draft n) (at to : List Part → State) (e : Event) (log : Log)
-    → ((parts : List Part) → HasWritten w parts → Takes (at parts) e (to parts)) → IsSent w at log → IsSent w to (then log e)
+    → ((parts : List Part) → HasParts w parts → TakesEvent (at parts) e (to parts)) → IsSent w at log → IsSent w to (then log e)
 mark w at to e log takes (inl failed) = inl failed
 mark w at to e log takes (inr h) = inr (h.0, h.1, logged log (at h.0) e (to h.0) h.2 (takes h.0 h.1))
 
 pub marked : {n : ℕ} (w : Draft n) (at to : List Part → State) (e : Event) (log next : Log) → next ≡ then log e
-    → ((parts : List Part) → HasWritten w parts → Takes (at parts) e (to parts)) → ∥ IsSent w at log ∥₁ → ∥ IsSent w to next ∥₁
+    → ((parts : List Part) → HasParts w parts → TakesEvent (at parts) e (to parts)) → ∥ IsSent w at log ∥₁ → ∥ IsSent w to next ∥₁
 marked w at to e log next is takes all = subst (λ l. ∥ IsSent w to l ∥₁) (sym is) (∥∥₁_map all (mark w at to e log takes))
 
 -- the events are no longer known
@@ -91,30 +93,30 @@ lost (Err x) step old new at to log next is steps failed all = ∣ inl failed �
 
 -- ---- by whether the next value is flattened
 
-pub unit-flat : (s t : State) → s.flattens ≡ true → t ≡ record s { flattens = false } → Takes s nothing t
+pub unit-flat : (s t : State) → s.flattens ≡ true → t ≡ record s { flattens = false } → TakesEvent s nothing t
 unit-flat s t flat is = subst (λ f. TakesUnit s f t) (sym flat) is
 
-pub unit-put : (s t : State) → s.flattens ≡ false → Moves s (with_value null) t → Takes s nothing t
+pub unit-put : (s t : State) → s.flattens ≡ false → MovesParts s (with_value null) t → TakesEvent s nothing t
 unit-put s t plain is = subst (λ f. TakesUnit s f t) (sym plain) is
 
 -- where so many containers are open
 pub map-flat : (s t : State) (n : Option ℕ) (deep : ℕ) → s.flattens ≡ true → deep ≡ open_count s
-    → t ≡ record s { flattens = false; flat = s.flat ++ deep ∷ [] } → Takes s (map_begins n) t
+    → t ≡ record s { flattens = false; flat = s.flat ++ deep ∷ [] } → TakesEvent s (map_begins n) t
 map-flat s t n deep flat so_many is =
     subst (λ f. TakesMap s f t) (sym flat) (is ∙ ap (λ m. record s { flattens = false; flat = s.flat ++ m ∷ [] }) so_many)
 
 pub map-flat-end : (s t : State) (deep : ℕ) → deep ≡ open_count s → s.flattens ≡ false → s.at_key ≡ false
-    → (rest : List ℕ) → s.flat ≡ rest ++ deep ∷ [] → t ≡ record s { flat = rest } → Takes s map_ends t
+    → (rest : List ℕ) → s.flat ≡ rest ++ deep ∷ [] → t ≡ record s { flat = rest } → TakesEvent s map_ends t
 map-flat-end s t deep so_many plain no_key rest last is =
     (plain, no_key, inl (rest, last ∙ ap (λ m. rest ++ m ∷ []) so_many, is))
 
 pub map-put-end : (s t : State) (deep : ℕ) → deep ≡ open_count s → s.flattens ≡ false → s.at_key ≡ false
-    → ((rest : List ℕ) → ¬ (s.flat ≡ rest ++ deep ∷ [])) → t ≡ record s { parts = with_end s.parts } → Takes s map_ends t
+    → ((rest : List ℕ) → ¬ (s.flat ≡ rest ++ deep ∷ [])) → t ≡ record s { parts = with_end s.parts } → TakesEvent s map_ends t
 map-put-end s t deep so_many plain no_key none is =
     (plain, no_key, inr (λ rest last. none rest (last ∙ ap (λ m. rest ++ m ∷ []) (sym so_many)), is))
 
-pub map-put : (s t : State) (n : Option ℕ) → s.flattens ≡ false → Moves s (λ parts. members_part no_members ∷ parts) t
-    → Takes s (map_begins n) t
+pub map-put : (s t : State) (n : Option ℕ) → s.flattens ≡ false → MovesParts s (λ parts. members_part no_members ∷ parts) t
+    → TakesEvent s (map_begins n) t
 map-put s t n plain is = subst (λ f. TakesMap s f t) (sym plain) is
 
 -- the last element of a list
@@ -138,8 +140,8 @@ document-of : (log : Log) (s : State) (d : Document) → s.parts ≡ whole d ∷
 document-of None s d is all = tt
 document-of (Some es) s d is all = (s, all, is)
 
-parts-printed : {n : ℕ} (w : Draft n) (at_key flattens : Bool) (flat : List ℕ) (log : Log) (parts : List Part) → AtEnd (place_of parts)
-    → HasWritten w parts → IfSome log (λ es. TakesAll start es (state at_key flattens flat parts))
+parts-printed : {n : ℕ} (w : Draft n) (at_key flattens : Bool) (flat : List ℕ) (log : Log) (parts : List Part) → AtEnd (draft_place parts)
+    → HasParts w parts → IfSome log (λ es. TakesAll start es (state at_key flattens flat parts))
     → IsTextOfEvents (n == 1) log w.out.items
 parts-printed w at_key flattens flat log [] end h all = absurd end
 parts-printed {n} w at_key flattens flat log (whole d ∷ outer) end h all = (

@@ -7,7 +7,7 @@ use Rattle.simd_json_parts.specs.Document.{Document, null, boolean, integer, dec
 use Rattle.simd_json_parts.specs.Listing.{listing}
 use Rattle.simd_json_parts.specs.Nodes.{Item, item_of}
 use Rattle.simd_json_parts.specs.declared.node.Node.{Node}
-use Rattle.simd_json_serde.specs.Steps.{Place, IsTaken, Opens, nodes_beneath}
+use Rattle.simd_json_serde.specs.Steps.{Place, IsNodeTaken, Opens, nodes_beneath}
 
 -- a listing's first node says how many follow it
 beneath_first : (d : Document) (i : Item) (rest others : List Item) → listing d ++ rest ≡ i ∷ others →
@@ -30,8 +30,8 @@ stands_beneath ns at d n rest got h =
     beneath_first d (item_of n) rest (map item_of (drop (suc at) ns)) (sym h ∙ ap (map item_of) cut)
 
 -- a header is taken, and its container entered
-pub opened : {E : Type 0} (r : Result Unit E) (header : ℕ → ℕ → Item) (old mid new : Place) (n : Node) (len count : ℕ) → IsTaken old n mid
-    → item_of n ≡ header len count → OnOk r (new ≡ record mid { end = mid.at + count; outer = mid.outer ++ mid.end ∷ [] })
+pub opened : {E : Type 0} (r : Result Unit E) (header : ℕ → ℕ → Item) (old mid new : Place) (n : Node) (len count : ℕ)
+    → IsNodeTaken old n mid → item_of n ≡ header len count → OnOk r (new ≡ record mid { end = mid.at + count; outer = mid.outer ++ mid.end ∷ [] })
     → OnOk r (Opens old header new)
 opened (Ok u) header old mid new n len count taken is entered = (
   n,

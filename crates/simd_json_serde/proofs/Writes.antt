@@ -13,11 +13,13 @@ use Rattle.simd_json_serde.specs.declared.draft.Draft.{Draft}
 use Rattle.simd_json_serde.specs.declared.draft.Open.{Open}
 use Rattle.simd_json_serde.specs.declared.draft.Open.TheVariants.{Array, Object}
 use Rattle.simd_json_serde.specs.declared.draft.Place.{Place}
-use Rattle.simd_json_serde.specs.declared.draft.Place.TheVariants.{Start, FirstElement, NextElement, FirstKey, NextKey, Member, End, Failed}
+use Rattle.simd_json_serde.specs.declared.draft.Place.TheVariants.{Start, FirstElement, NextElement, FirstKey}
+use Rattle.simd_json_serde.specs.declared.draft.Place.TheVariants.{NextKey, Member, End, Failed}
 use Rattle.simd_json_serde.specs.Written.{Part, whole, elements_part, members_part, named_part}
 use Rattle.simd_json_serde.specs.Written.{then_element, then_member, with_value, with_name, with_end}
 use Rattle.simd_json_serde.specs.Written.{elements_comma, elements_front, members_front, name_text, before, so_far}
-use Rattle.simd_json_serde.specs.Written.{place_of, open_in, AwaitValues, AreNested, HasWritten, IsBefore, IsSound, Steps, integers}
+use Rattle.simd_json_serde.specs.Written.{draft_place, open_in, AwaitValues, PartsAreNested}
+use Rattle.simd_json_serde.specs.Written.{HasParts, IsBeforeValue, IsSound, Steps, integers}
 use Rattle.simd_json_serde.proofs.Sound.{value-sound, name-sound}
 
 -- ---- lists that are joined
@@ -85,7 +87,7 @@ put-text p d (named_part ms k ∷ outer) await =
     ap (λ t. before p outer ++ t) (members-then p (length outer) ms k d)
     ∙ joined (before p outer) (members_front p (length outer) ms ++ name_text p (length outer) ms k) [] (text p d (suc (length outer)))
 
-nested-put : (d : Document) (parts : List Part) → AwaitValues parts → AreNested (with_value d parts)
+nested-put : (d : Document) (parts : List Part) → AwaitValues parts → PartsAreNested (with_value d parts)
 nested-put d [] await = refl
 nested-put d (whole e ∷ outer) await = absurd await
 nested-put d (elements_part ds ∷ outer) await = await
@@ -115,7 +117,7 @@ last-of xs k =
     ap (λ n. slice_get (xs ++ k ∷ []) n) one ∙ at-seam xs k
 
 place-put : (d : Document) (parts : List Part) → AwaitValues parts
-    → place_after (slice_get (open_in parts) (length (open_in parts) - 1)) ≡ place_of (with_value d parts)
+    → place_after (slice_get (open_in parts) (length (open_in parts) - 1)) ≡ draft_place (with_value d parts)
 place-put d [] await = refl
 place-put d (whole e ∷ outer) await = absurd await
 place-put d (elements_part no_elements ∷ outer) await = ap place_after (last-of (open_in outer) Array)
@@ -127,7 +129,7 @@ place-put d (named_part (member j e ms) k ∷ outer) await = ap place_after (las
 pub value-put : {n : ℕ} (old new : Draft n) (d : Document) (parts : List Part) (last : Option Open)
     → last ≡ slice_get old.containers.items (length old.containers.items - 1) → new.place ≡ place_after last
     → new.containers ≡ old.containers → new.out ≡ old.out → IsSound d
-    → IsBefore old parts (text (n == 1) d (length parts)) → HasWritten new (with_value d parts)
+    → IsBeforeValue old parts (text (n == 1) d (length parts)) → HasParts new (with_value d parts)
 value-put {n} old new d parts last is place kept out one b = record {
   place = place ∙ ap place_after (is ∙ ap (λ o. slice_get o (length o - 1)) b.containers) ∙ place-put d parts b.await;
   containers = ap (λ o. o.items) kept ∙ b.containers ∙ sym (open-put d parts b.await);
@@ -168,7 +170,7 @@ TakesValue Member = Unit {0}
 TakesValue End = ⊥
 TakesValue Failed = ⊥
 
-await-at : (parts : List Part) → TakesValue (place_of parts) → AreNested parts → AwaitValues parts
+await-at : (parts : List Part) → TakesValue (draft_place parts) → PartsAreNested parts → AwaitValues parts
 await-at [] takes nested = tt
 await-at (whole e ∷ outer) takes nested = absurd takes
 await-at (elements_part ds ∷ outer) takes nested = nested
@@ -177,7 +179,7 @@ await-at (members_part (member k d ms) ∷ outer) takes nested = absurd takes
 await-at (named_part ms k ∷ outer) takes nested = nested
 
 lead-text : (p : Bool) (parts : List Part) → AwaitValues parts
-    → so_far p parts ++ lead_at p (place_of parts) (length parts) ≡ before p parts
+    → so_far p parts ++ lead_at p (draft_place parts) (length parts) ≡ before p parts
 lead-text p [] await = refl
 lead-text p (whole e ∷ outer) await = absurd await
 lead-text p (elements_part no_elements ∷ outer) await =
@@ -190,7 +192,7 @@ lead-text p (named_part ms k ∷ outer) await =
 
 pub value-led : {n : ℕ} (old new : Draft n) (parts : List Part) → TakesValue old.place → new.containers ≡ old.containers
     → new.out.items ≡ old.out.items ++ lead_at (n == 1) old.place (length old.containers.items)
-    → HasWritten old parts → IsBefore new parts []
+    → HasParts old parts → IsBeforeValue new parts []
 value-led {n} old new parts takes kept out h =
     let await : AwaitValues parts = await-at parts (subst TakesValue h.place takes) h.nested in
     let deep : length old.containers.items ≡ length parts = ap length h.containers ∙ open-length parts await in
@@ -207,7 +209,7 @@ value-led {n} old new parts takes kept out h =
 pub led-by : {n : ℕ} {E : Type 0} (r : Result Unit E) (q : Place) (old new : Draft n) → old.place ≡ q → TakesValue q
     → new.containers ≡ old.containers
     → OnOk r (new.out.items ≡ old.out.items ++ lead_at (n == 1) q (length old.containers.items))
-    → OnOk r ((parts : List Part) → HasWritten old parts → IsBefore new parts [])
+    → OnOk r ((parts : List Part) → HasParts old parts → IsBeforeValue new parts [])
 led-by {n} (Ok u) q old new here takes kept out = λ parts h.
     value-led old new parts (subst TakesValue (sym here) takes) kept
     (out ∙ ap (λ s. old.out.items ++ lead_at (n == 1) s (length old.containers.items)) (sym here)) h
@@ -217,7 +219,7 @@ led-by (Err e) q old new here takes kept out = tt
 pub comma-led : {n : ℕ} {E : Type 0} (r : Result Unit E) (old new : Draft n) (mid : List ℕ) → old.place ≡ NextElement
     → mid ≡ old.out.items ++ comma ∷ [] → new.containers ≡ old.containers
     → OnOk r (new.out.items ≡ mid ++ line (n == 1) (length old.containers.items))
-    → OnOk r ((parts : List Part) → HasWritten old parts → IsBefore new parts [])
+    → OnOk r ((parts : List Part) → HasParts old parts → IsBeforeValue new parts [])
 comma-led {n} {E} (Ok u) old new mid here is kept out =
     led-by {E = E} (Ok u) NextElement old new here tt kept
     (out ∙ ap (λ s. s ++ line (n == 1) (length old.containers.items)) is ∙ append_assoc old.out.items (comma ∷ []) _)
@@ -237,14 +239,14 @@ end_line p End n = []
 end_line p Failed n = []
 
 array-end-text : (p : Bool) (outer : List Part) (ds : Elements)
-    → so_far p (elements_part ds ∷ outer) ++ (end_line p (place_of (elements_part ds ∷ outer)) (length outer) ++ right_bracket ∷ [])
+    → so_far p (elements_part ds ∷ outer) ++ (end_line p (draft_place (elements_part ds ∷ outer)) (length outer) ++ right_bracket ∷ [])
     ≡ before p outer ++ text p (array ds) (length outer)
 array-end-text p outer no_elements = append_assoc (before p outer) (left_bracket ∷ []) (right_bracket ∷ [])
 array-end-text p outer (element d ds) =
     append_assoc (before p outer) (elements_front p (length outer) (element d ds)) (line p (length outer) ++ right_bracket ∷ [])
 
 object-end-text : (p : Bool) (outer : List Part) (ms : Members)
-    → so_far p (members_part ms ∷ outer) ++ (end_line p (place_of (members_part ms ∷ outer)) (length outer) ++ right_brace ∷ [])
+    → so_far p (members_part ms ∷ outer) ++ (end_line p (draft_place (members_part ms ∷ outer)) (length outer) ++ right_brace ∷ [])
     ≡ before p outer ++ text p (object ms) (length outer)
 object-end-text p outer no_members = append_assoc (before p outer) (left_brace ∷ []) (right_brace ∷ [])
 object-end-text p outer (member k d ms) =
@@ -280,11 +282,11 @@ TakesName Failed = ⊥
 
 ended-before : {n : ℕ} (old mid : Draft n) (outer : List Part) (f : Part) (kind k : Open) (bracket : ℕ) (value : List ℕ)
     → AwaitValues outer → open_in (f ∷ outer) ≡ open_in outer ++ kind ∷ []
-    → so_far (n == 1) (f ∷ outer) ++ (end_line (n == 1) (place_of (f ∷ outer)) (length outer) ++ bracket ∷ [])
+    → so_far (n == 1) (f ∷ outer) ++ (end_line (n == 1) (draft_place (f ∷ outer)) (length outer) ++ bracket ∷ [])
     ≡ before (n == 1) outer ++ value
     → old.containers.items ≡ mid.containers.items ++ k ∷ []
     → mid.out.items ≡ old.out.items ++ (end_line (n == 1) old.place (length mid.containers.items) ++ bracket ∷ [])
-    → HasWritten old (f ∷ outer) → IsBefore mid outer value
+    → HasParts old (f ∷ outer) → IsBeforeValue mid outer value
 ended-before {n} old mid outer f kind k bracket value await kinds all popped out h =
     let front : mid.containers.items ≡ open_in outer = front-of _ _ k kind (sym popped ∙ h.containers ∙ kinds) in
     let deep : length mid.containers.items ≡ length outer = ap length front ∙ open-length outer await in
@@ -299,8 +301,8 @@ ended-before {n} old mid outer f kind k bracket value await kinds all popped out
 array-ended : {n : ℕ} (old mid new : Draft n) (parts : List Part) (k : Open) → TakesArrayEnd old.place
     → old.containers.items ≡ mid.containers.items ++ k ∷ []
     → mid.out.items ≡ old.out.items ++ (end_line (n == 1) old.place (length mid.containers.items) ++ right_bracket ∷ [])
-    → ((d : Document) (ps : List Part) → IsSound d → IsBefore mid ps (text (n == 1) d (length ps)) → HasWritten new (with_value d ps))
-    → HasWritten old parts → HasWritten new (with_end parts)
+    → ((d : Document) (ps : List Part) → IsSound d → IsBeforeValue mid ps (text (n == 1) d (length ps)) → HasParts new (with_value d ps))
+    → HasParts old parts → HasParts new (with_end parts)
 array-ended old mid new [] k takes popped out put h = absurd (subst TakesArrayEnd h.place takes)
 array-ended old mid new (whole d ∷ outer) k takes popped out put h = absurd (subst TakesArrayEnd h.place takes)
 array-ended {n} old mid new (elements_part ds ∷ outer) k takes popped out put h =
@@ -313,8 +315,8 @@ array-ended old mid new (named_part ms j ∷ outer) k takes popped out put h = a
 object-ended : {n : ℕ} (old mid new : Draft n) (parts : List Part) (k : Open) → TakesName old.place
     → old.containers.items ≡ mid.containers.items ++ k ∷ []
     → mid.out.items ≡ old.out.items ++ (end_line (n == 1) old.place (length mid.containers.items) ++ right_brace ∷ [])
-    → ((d : Document) (ps : List Part) → IsSound d → IsBefore mid ps (text (n == 1) d (length ps)) → HasWritten new (with_value d ps))
-    → HasWritten old parts → HasWritten new (with_end parts)
+    → ((d : Document) (ps : List Part) → IsSound d → IsBeforeValue mid ps (text (n == 1) d (length ps)) → HasParts new (with_value d ps))
+    → HasParts old parts → HasParts new (with_end parts)
 object-ended old mid new [] k takes popped out put h = absurd (subst TakesName h.place takes)
 object-ended old mid new (whole d ∷ outer) k takes popped out put h = absurd (subst TakesName h.place takes)
 object-ended old mid new (elements_part no_elements ∷ outer) k takes popped out put h = absurd (subst TakesName h.place takes)
@@ -328,7 +330,7 @@ pub array-put : {n : ℕ} (old mid new : Draft n) (lined : List ℕ) (popped : O
     → TakesArrayEnd old.place × (lined ≡ old.out.items ++ end_line (n == 1) old.place (length mid.containers.items))
     → old.containers.items ≡ mid.containers.items ++ option_to_list popped → is_some popped ≡ true
     → mid.out.items ≡ lined ++ right_bracket ∷ []
-    → ((d : Document) (ps : List Part) → IsSound d → IsBefore mid ps (text (n == 1) d (length ps)) → HasWritten new (with_value d ps))
+    → ((d : Document) (ps : List Part) → IsSound d → IsBeforeValue mid ps (text (n == 1) d (length ps)) → HasParts new (with_value d ps))
     → Steps with_end old new
 array-put old mid new lined None (takes, is) less some out put = cc
 array-put old mid new lined (Some k) (takes, is) less some out put = record {
@@ -341,7 +343,7 @@ pub object-put : {n : ℕ} (old mid new : Draft n) (lined : List ℕ) (popped : 
     → TakesName old.place × (lined ≡ old.out.items ++ end_line (n == 1) old.place (length mid.containers.items))
     → old.containers.items ≡ mid.containers.items ++ option_to_list popped → is_some popped ≡ true
     → mid.out.items ≡ lined ++ right_brace ∷ []
-    → ((d : Document) (ps : List Part) → IsSound d → IsBefore mid ps (text (n == 1) d (length ps)) → HasWritten new (with_value d ps))
+    → ((d : Document) (ps : List Part) → IsSound d → IsBeforeValue mid ps (text (n == 1) d (length ps)) → HasParts new (with_value d ps))
     → Steps with_end old new
 object-put old mid new lined None (takes, is) less some out put = cc
 object-put old mid new lined (Some k) (takes, is) less some out put = record {
@@ -364,7 +366,7 @@ name_lead Failed = []
 
 name-text : (p : Bool) (ms : Members) (outer : List Part) (k : List ℕ)
     → so_far p (members_part ms ∷ outer)
-    ++ (name_lead (place_of (members_part ms ∷ outer)) ++ (line p (suc (length outer)) ++ (quoted k ++ after_name p)))
+    ++ (name_lead (draft_place (members_part ms ∷ outer)) ++ (line p (suc (length outer)) ++ (quoted k ++ after_name p)))
     ≡ so_far p (named_part ms k ∷ outer)
 name-text p no_members outer k = append_assoc (before p outer) _ _
 name-text p (member j d ms) outer k = append_assoc (before p outer) _ _
@@ -373,7 +375,7 @@ named : {n : ℕ} (old new : Draft n) (parts : List Part) (k : List ℕ) → IsU
     → new.containers ≡ old.containers
     → new.out.items ≡ old.out.items ++ (name_lead old.place
     ++ (line (n == 1) (length old.containers.items) ++ (quoted k ++ after_name (n == 1))))
-    → HasWritten old parts → HasWritten new (with_name k parts)
+    → HasParts old parts → HasParts new (with_name k parts)
 named old new [] k utf8 takes place kept out h = absurd (subst TakesName h.place takes)
 named old new (whole d ∷ outer) k utf8 takes place kept out h = absurd (subst TakesName h.place takes)
 named old new (elements_part no_elements ∷ outer) k utf8 takes place kept out h = absurd (subst TakesName h.place takes)
@@ -421,7 +423,7 @@ pub byte-put : {n : ℕ} (old mid new : Draft n) (bs : List ℕ) (i : ℕ) → i
 byte-put old mid new bs i less before_it it = record {
   live = before_it.live;
   written = λ parts h.
-      subst (λ es. HasWritten new (elements_part es ∷ parts))
+      subst (λ es. HasParts new (elements_part es ∷ parts))
       (sym (ap integers (take_more bs i 0 less) ∙ integers-more (take i bs) (get_or bs i 0)))
       (it.written _ (before_it.written parts h));
 }
@@ -432,6 +434,6 @@ pub bytes-put : {n : ℕ} {E : Type 0} (r : Result Unit E) (old mid new : Draft 
 bytes-put (Ok u) old mid new bs i all before_it end = record {
   live = before_it.live;
   written = λ parts h.
-      subst (λ xs. HasWritten new (with_value (array (integers xs)) parts)) all (end.written _ (before_it.written parts h));
+      subst (λ xs. HasParts new (with_value (array (integers xs)) parts)) all (end.written _ (before_it.written parts h));
 }
 bytes-put (Err e) old mid new bs i all before_it end = tt

@@ -30,9 +30,9 @@ abbrev pub truth : Item → Option Bool
 truth (static_item s) = truth_of s
 truth _ = None
 
-abbrev pub number : Item → Option ℤ
-number (static_item s) = number_in s
-number _ = None
+abbrev pub integer_said : Item → Option ℤ
+integer_said (static_item s) = number_in s
+integer_said _ = None
 
 abbrev pub text : Item → Option (List ℕ)
 text (string_item t) = Some t
@@ -43,13 +43,13 @@ abbrev pub signed : ℕ → Item → Option ℤ
 signed bits item =
     option_and_then
     (if_passes (λ z. int_le (neg_ℤ (pos (2 ^ (bits - 1)))) z && int_lt z (pos (2 ^ (bits - 1)))))
-    (number item)
+    (integer_said item)
 
 abbrev pub unsigned : ℕ → Item → Option ℕ
 unsigned bits item =
     option_and_then
     (λ z. option_and_then (if_passes (λ n. int_lt (pos n) (pos (2 ^ bits)))) (natural_of z))
-    (number item)
+    (integer_said item)
 
 -- the float nearest to what the text spells, if it is finite
 abbrev pub nearest : Format → List ℕ → Option Float
@@ -109,5 +109,5 @@ abbrev pub CanSkip : Place → Type 0
 CanSkip p = (count : ℕ) × (ahead (λ item. Some (nodes_beneath item)) p ≡ Some count) × (p.at + 1 + count < 2 ^ 64)
 
 -- no container is open, and nothing is left
-abbrev pub IsLeft : Place → Type 0
-IsLeft p = (p.end ≤ p.at) × (p.outer ≡ [])
+abbrev pub NothingIsLeft : Place → Type 0
+NothingIsLeft p = (p.end ≤ p.at) × (p.outer ≡ [])

@@ -1,5 +1,6 @@
 pub mod Steps
 pub mod Places
+pub mod Paths
 pub mod Ahead
 pub mod Faults
 pub mod Outcomes

@@ -1,7 +1,7 @@
 -- What is printed of a mismatch.
 use Rattle.std.specs.Prelude.{ℕ, List, [], ◌∷◌, ◌++◌, codes, string_bytes}
 use Rattle.std.specs.Fmt.InlineText.{inline_text}
-use Rattle.simd_json_serde.specs.Words.{words, expected_words}
+use Rattle.simd_json_serde.specs.Words.{found_words, wanted_words}
 use Rattle.simd_json_serde.specs.declared.error.Mismatch.{Mismatch}
 use Rattle.simd_json_serde.specs.declared.error.MismatchKind.{MismatchKind}
 use Rattle.simd_json_serde.specs.declared.error.MismatchKind.TheVariants.{InvalidType, InvalidValue, InvalidLength, MissingValue}
@@ -11,25 +11,25 @@ use Rattle.simd_json_serde.specs.declared.error.MismatchKind.TheVariants.{Custom
 abbrev pub path_of : Mismatch → List ℕ
 path_of m = string_bytes m.path
 
-abbrev pub name_of : Mismatch → List ℕ
-name_of m = inline_text m.name
+abbrev pub given_name : Mismatch → List ℕ
+given_name m = inline_text m.name
 
-abbrev pub reason_text : MismatchKind → List ℕ → List ℕ
-reason_text (InvalidType expected got) name = codes "expected " ++ expected_words expected ++ codes ", found " ++ words got
-reason_text InvalidValue name = codes "the value does not fit the type"
-reason_text InvalidLength name = codes "the array has another length"
-reason_text MissingValue name = codes "a value is missing"
-reason_text MissingField name = codes "missing field `" ++ name ++ codes "`"
-reason_text DuplicateField name = codes "duplicate field `" ++ name ++ codes "`"
-reason_text UnknownField name = codes "unknown field"
-reason_text UnknownVariant name = codes "unknown variant"
-reason_text Custom name = name
-reason_text OutOfMemory name = codes "out of memory"
+abbrev pub mismatch_reason : MismatchKind → List ℕ → List ℕ
+mismatch_reason (InvalidType expected got) name = codes "expected " ++ wanted_words expected ++ codes ", found " ++ found_words got
+mismatch_reason InvalidValue name = codes "the value does not fit the type"
+mismatch_reason InvalidLength name = codes "the array has another length"
+mismatch_reason MissingValue name = codes "a value is missing"
+mismatch_reason MissingField name = codes "missing field `" ++ name ++ codes "`"
+mismatch_reason DuplicateField name = codes "duplicate field `" ++ name ++ codes "`"
+mismatch_reason UnknownField name = codes "unknown field"
+mismatch_reason UnknownVariant name = codes "unknown variant"
+mismatch_reason Custom name = name
+mismatch_reason OutOfMemory name = codes "out of memory"
 
 -- the path, unless it is empty
 abbrev pub lead_text : List ℕ → List ℕ
 lead_text [] = []
 lead_text (x ∷ path) = (x ∷ path) ++ codes ": "
 
-abbrev pub mismatch_text : Mismatch → List ℕ
-mismatch_text m = lead_text (path_of m) ++ reason_text m.fault.kind (name_of m)
+abbrev pub printed_mismatch : Mismatch → List ℕ
+printed_mismatch m = lead_text (path_of m) ++ mismatch_reason m.fault.kind (given_name m)

@@ -5,7 +5,10 @@ use Rattle.simd_json_parts.specs.Grammar.{Denotes}
 use Rattle.simd_json_parts.specs.Limits.{WithinLimits}
 use Rattle.simd_json_check.specs.Capacities.{IsOutOfMemory}
 use Rattle.simd_json.specs.Parsed.{IsRejected}
+use Rattle.simd_json_serde.specs.Messages.{path_of}
+use Rattle.simd_json_serde.specs.Paths.{way}
 use Rattle.simd_json_serde.specs.declared.error.Error.{Error}
+use Rattle.simd_json_serde.specs.declared.error.Mismatch.{Mismatch as MismatchData}
 use Rattle.simd_json_serde.specs.declared.error.Error.TheVariants.{Parse, Mismatch}
 use Rattle.simd_json_serde.specs.declared.error.MismatchKind.{MismatchKind}
 use Rattle.simd_json_serde.specs.declared.error.MismatchKind.TheVariants.{OutOfMemory}
@@ -15,10 +18,23 @@ abbrev pub IsDocument : List ℕ → ℕ → Type 0
 IsDocument b limit = (d : Document) × Denotes b d × WithinLimits b d limit
 
 -- A read of b: a value and a mismatch come of documents alone; a parse error is the first one, or of memory.
-abbrev pub IsRead : {T : Type 0} → List ℕ → ℕ → Result T Error → Type 0
-IsRead b limit (Ok value) = IsDocument b limit
-IsRead b limit (Err (Mismatch m)) = IsDocument b limit
-IsRead b limit (Err (Parse e)) = IsRejected b limit e ⊎ IsOutOfMemory e
+abbrev pub IsTypedRead : {T : Type 0} → List ℕ → ℕ → Result T Error → Type 0
+IsTypedRead b limit (Ok value) = IsDocument b limit
+IsTypedRead b limit (Err (Mismatch m)) = IsDocument b limit
+IsTypedRead b limit (Err (Parse e)) = IsRejected b limit e ⊎ IsOutOfMemory e
+
+-- the path is the way to the node of d where the read failed
+abbrev pub HasPath : Document → MismatchData → Type 0
+HasPath d m = path_of m ≡ way d m.fault.depth m.fault.node
+
+abbrev pub HasErrorPath : Document → Error → Type 0
+HasErrorPath d (Mismatch m) = HasPath d m
+HasErrorPath d (Parse e) = Unit {0}
+
+-- the same of the document that the bytes are
+abbrev pub HasPathIn : List ℕ → Error → Type 0
+HasPathIn b (Mismatch m) = (d : Document) × Denotes b d × HasPath d m
+HasPathIn b (Parse e) = Unit {0}
 
 -- not an error of a parse
 abbrev pub IsLate : {T : Type 0} → Result T Error → Type 0

@@ -28,13 +28,13 @@ pub record Place : Type 0 where
   pub at_key : Bool
 
 -- n is the next node, within the innermost container, and it is passed
-abbrev pub IsTaken : Place → Node → Place → Type 0
-IsTaken old n new =
+abbrev pub IsNodeTaken : Place → Node → Place → Type 0
+IsNodeTaken old n new =
     (old.at < old.end) × (slice_get old.nodes old.at ≡ Some n) × (new ≡ record old { at = old.at + 1; at_key = false })
 
 -- the next node is taken, and says this
-abbrev pub Takes : Place → (Bool → Item → Type 0) → Place → Type 0
-Takes old P new = (n : Node) × IsTaken old n new × P old.at_key (item_of n)
+abbrev pub TakesNode : Place → (Bool → Item → Type 0) → Place → Type 0
+TakesNode old P new = (n : Node) × IsNodeTaken old n new × P old.at_key (item_of n)
 
 -- the nodes from the next one on begin with those of the value
 abbrev pub Stands : Place → Document → Type 0
@@ -87,10 +87,6 @@ IsFloat format x key (object_item len count) = ⊥
 abbrev pub IsText : List ℕ → Bool → Item → Type 0
 IsText t key item = item ≡ string_item t
 
--- what the first node of a document says, where it is no key
-abbrev pub Says : Document → (Bool → Item → Type 0) → Type 0
-Says d P = (item : Item) × (slice_get (listing d) 0 ≡ Some item) × P false item
-
 abbrev pub Closes : Place → Place → Type 0
 Closes old new =
     (old.end ≤ old.at) × (old.outer ≡ new.outer ++ new.end ∷ []) × (new.at ≡ old.at) × (new.nodes ≡ old.nodes) × (new.at_key ≡ old.at_key)
@@ -102,28 +98,29 @@ Opens old header new =
     × (new ≡ record { nodes = old.nodes; at = old.at + 1; end = old.at + 1 + count; outer = old.outer ++ old.end ∷ []; at_key = false })
 
 -- what each event is read from
-abbrev pub Reads : Place → Event → Place → Type 0
-Reads old (boolean b) new = Takes old (IsBool b) new
-Reads old (signed z) new = Takes old (IsSigned z) new
-Reads old (unsigned n) new = Takes old (IsUnsigned n) new
-Reads old (single x) new = Takes old (IsFloat binary32 x) new
-Reads old (double x) new = Takes old (IsFloat binary64 x) new
-Reads old (character c) new = Takes old (IsText (encode_utf8 c)) new
-Reads old (text t) new = Takes old (IsText t) new
-Reads old (octets bs) new =
-    Takes old (IsText bs) new ⊎ ((n : Node) × (len count : ℕ) × (slice_get old.nodes old.at ≡ Some n) × (item_of n ≡ array_item len count))
-Reads old nothing new = Takes old (λ _ item. item ≡ static_item fixed.Null) new
-Reads old (unit_variant name case) new = ⊥
-Reads old (seq_begins n) new = Opens old array_item new
-Reads old seq_ends new = Closes old new
-Reads old (map_begins n) new = Opens old object_item new
-Reads old map_ends new = Closes old new
-Reads old (field_key name case) new = ⊥
-Reads old (variant_key name case) new = ⊥
-Reads old key_begins new = (old.at < old.end) × (new ≡ record old { at_key = true })
-Reads old key_ends new = ⊥
-Reads old flattens new = ⊥
+abbrev pub ReadsAs : Place → Event → Place → Type 0
+ReadsAs old (boolean b) new = TakesNode old (IsBool b) new
+ReadsAs old (signed z) new = TakesNode old (IsSigned z) new
+ReadsAs old (unsigned n) new = TakesNode old (IsUnsigned n) new
+ReadsAs old (single x) new = TakesNode old (IsFloat binary32 x) new
+ReadsAs old (double x) new = TakesNode old (IsFloat binary64 x) new
+ReadsAs old (character c) new = TakesNode old (IsText (encode_utf8 c)) new
+ReadsAs old (text t) new = TakesNode old (IsText t) new
+ReadsAs old (octets bs) new =
+    TakesNode old (IsText bs) new
+    ⊎ ((n : Node) × (len count : ℕ) × (slice_get old.nodes old.at ≡ Some n) × (item_of n ≡ array_item len count))
+ReadsAs old nothing new = TakesNode old (λ _ item. item ≡ static_item fixed.Null) new
+ReadsAs old (unit_variant name case) new = ⊥
+ReadsAs old (seq_begins n) new = Opens old array_item new
+ReadsAs old seq_ends new = Closes old new
+ReadsAs old (map_begins n) new = Opens old object_item new
+ReadsAs old map_ends new = Closes old new
+ReadsAs old (field_key name case) new = ⊥
+ReadsAs old (variant_key name case) new = ⊥
+ReadsAs old key_begins new = (old.at < old.end) × (new ≡ record old { at_key = true })
+ReadsAs old key_ends new = ⊥
+ReadsAs old flattens new = ⊥
 
 -- a key or a string, and the first name that it stands for
-abbrev pub Picks : Place → Bool → List Name → ℕ → Place → Type 0
-Picks old is_key names at new = (t : List ℕ) × Takes old (IsText t) new × Finds names t at
+abbrev pub PicksName : Place → Bool → List Name → ℕ → Place → Type 0
+PicksName old is_key names at new = (t : List ℕ) × TakesNode old (IsText t) new × Finds names t at

@@ -104,14 +104,14 @@ so_far p (f ∷ outer) = before p outer ++ part_text p (length outer) f
 
 -- ---- what a draft keeps of them
 
-abbrev pub place_of : List Part → Place
-place_of [] = Start
-place_of (whole d ∷ outer) = End
-place_of (elements_part no_elements ∷ outer) = FirstElement
-place_of (elements_part (element d ds) ∷ outer) = NextElement
-place_of (members_part no_members ∷ outer) = FirstKey
-place_of (members_part (member k d ms) ∷ outer) = NextKey
-place_of (named_part ms k ∷ outer) = Member
+abbrev pub draft_place : List Part → Place
+draft_place [] = Start
+draft_place (whole d ∷ outer) = End
+draft_place (elements_part no_elements ∷ outer) = FirstElement
+draft_place (elements_part (element d ds) ∷ outer) = NextElement
+draft_place (members_part no_members ∷ outer) = FirstKey
+draft_place (members_part (member k d ms) ∷ outer) = NextKey
+draft_place (named_part ms k ∷ outer) = Member
 
 -- the outermost first
 abbrev pub open_in : List Part → List Open
@@ -129,12 +129,12 @@ AwaitValues (elements_part ds ∷ outer) = AwaitValues outer
 AwaitValues (members_part ms ∷ outer) = ⊥
 AwaitValues (named_part ms k ∷ outer) = AwaitValues outer
 
-abbrev pub AreNested : List Part → Type 0
-AreNested [] = ⊤
-AreNested (whole d ∷ outer) = outer ≡ []
-AreNested (elements_part ds ∷ outer) = AwaitValues outer
-AreNested (members_part ms ∷ outer) = AwaitValues outer
-AreNested (named_part ms k ∷ outer) = AwaitValues outer
+abbrev pub PartsAreNested : List Part → Type 0
+PartsAreNested [] = ⊤
+PartsAreNested (whole d ∷ outer) = outer ≡ []
+PartsAreNested (elements_part ds ∷ outer) = AwaitValues outer
+PartsAreNested (members_part ms ∷ outer) = AwaitValues outer
+PartsAreNested (named_part ms k ∷ outer) = AwaitValues outer
 
 -- ---- the documents in them
 
@@ -149,15 +149,15 @@ PartsAreSound [] = ⊤
 PartsAreSound (f ∷ outer) = PartIsSound f × PartsAreSound outer
 
 -- the draft has the text of these
-pub record HasWritten {n : ℕ} (w : Draft n) (parts : List Part) : Type 0 where
-  pub place : w.place ≡ place_of parts
+pub record HasParts {n : ℕ} (w : Draft n) (parts : List Part) : Type 0 where
+  pub place : w.place ≡ draft_place parts
   pub containers : w.containers.items ≡ open_in parts
-  pub nested : AreNested parts
+  pub nested : PartsAreNested parts
   pub sound : PartsAreSound parts
   pub out : w.out.items ≡ so_far (n == 1) parts
 
 -- the same with what stands before the next value, and this text of one, whatever the place
-pub record IsBefore {n : ℕ} (w : Draft n) (parts : List Part) (value : List ℕ) : Type 0 where
+pub record IsBeforeValue {n : ℕ} (w : Draft n) (parts : List Part) (value : List ℕ) : Type 0 where
   pub containers : w.containers.items ≡ open_in parts
   pub await : AwaitValues parts
   pub sound : PartsAreSound parts
@@ -167,7 +167,7 @@ pub record IsBefore {n : ℕ} (w : Draft n) (parts : List Part) (value : List �
 
 pub record Steps {n : ℕ} (step : List Part → List Part) (old new : Draft n) : Type 0 where
   pub live : old.place ≢ Failed
-  pub written : (parts : List Part) → HasWritten old parts → HasWritten new (step parts)
+  pub written : (parts : List Part) → HasParts old parts → HasParts new (step parts)
 
 -- a value is put
 abbrev pub Puts : {n : ℕ} → Document → Draft n → Draft n → Type 0
@@ -227,8 +227,8 @@ takes_scalar true p = takes_name p
 takes_scalar false p = takes_value p
 
 -- memory, or that such a step is not possible here
-abbrev pub IsFault : Bool → WriteError → Type 0
-IsFault possible e = (e ≡ OutOfMemory) ⊎ ((possible ≡ false) × (e ≡ Misplaced))
+abbrev pub IsStepFault : Bool → WriteError → Type 0
+IsStepFault possible e = (e ≡ OutOfMemory) ⊎ ((possible ≡ false) × (e ≡ Misplaced))
 
 abbrev pub ends_array : Place → Bool
 ends_array Start = false

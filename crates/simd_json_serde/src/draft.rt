@@ -44,14 +44,15 @@ pub(crate) struct Draft<const PRETTY: u8> {
 
 impl<const PRETTY: u8> Draft<PRETTY> {
     ghost use Rattle.simd_json_serde.specs.Written.{Part, elements_part, members_part, with_end};
-    ghost use Rattle.simd_json_serde.specs.Written.{IsBefore, HasWritten, IsSound, IsTextOf};
+    ghost use Rattle.simd_json_serde.specs.Written.{IsBeforeValue, HasParts, IsSound, IsTextOf};
     ghost use Rattle.simd_json_serde.specs.Written.{Steps, Puts, Names, Sets, with_value};
     ghost use Rattle.simd_json_serde.specs.Written.{integer_of, integers};
-    ghost use Rattle.simd_json_serde.specs.Written.{takes_value, takes_name, takes_scalar, IsFault};
+    ghost use Rattle.simd_json_serde.specs.Written.{takes_value, takes_name, takes_scalar};
+    ghost use Rattle.simd_json_serde.specs.Written.{IsStepFault};
     ghost use Rattle.simd_json_serde.specs.Written.{ends_array, IsEndFault};
 
     pub(crate) fn new(alloc: Global) -> Draft<PRETTY>
-        ensures { HasWritten result [] }
+        ensures { HasParts result [] }
     {
         Draft {
             out: Vec::new(alloc),
@@ -76,11 +77,11 @@ impl<const PRETTY: u8> Draft<PRETTY> {
 
     // What stands before a value. The draft counts as failed until the value is there.
     fn put_lead(&mut self) -> Result<(), WriteError>
-        ensures before { OnOk result ((parts : List Part) → HasWritten self.old parts
-            → IsBefore self.new parts []) }
+        ensures before { OnOk result ((parts : List Part) → HasParts self.old parts
+            → IsBeforeValue self.new parts []) }
         ensures live { OnOk result (self.old.place ≢ Place.Failed) }
         ensures failed { self.new.place ≡ Place.Failed }
-        ensures err { IfErr result (IsFault (takes_value self.old.place)) }
+        ensures err { IfErr result (IsStepFault (takes_value self.old.place)) }
     {
         let place = self.place;
         self.place = Place::Failed;
@@ -98,8 +99,8 @@ impl<const PRETTY: u8> Draft<PRETTY> {
     // The place after a value, whose text is there.
     fn end_value(&mut self)
         ensures { (d : Document) (parts : List Part) → IsSound d
-            → IsBefore self.old parts (text_of (PRETTY == 1) d (length parts))
-            → HasWritten self.new (with_value d parts) }
+            → IsBeforeValue self.old parts (text_of (PRETTY == 1) d (length parts))
+            → HasParts self.new (with_value d parts) }
     {
         self.place = match self.containers.last() {
             None => Place::End,
@@ -113,7 +114,7 @@ impl<const PRETTY: u8> Draft<PRETTY> {
         ensures put { OnOk result ((d : Document) → IsSound d → IsTextOf d text.now
             → Puts d self.old self.new) }
         ensures failed { OnErr result (self.new.place ≡ Place.Failed) }
-        ensures err { IfErr result (IsFault (takes_value self.old.place)) }
+        ensures err { IfErr result (IsStepFault (takes_value self.old.place)) }
     {
         self.put_lead()?;
         self.out.extend_from_slice(text.as_bytes())?;
@@ -124,7 +125,7 @@ impl<const PRETTY: u8> Draft<PRETTY> {
     fn put_string(&mut self, text: &str) -> Result<(), WriteError>
         ensures put { OnOk result (Puts (string text.now) self.old self.new) }
         ensures failed { OnErr result (self.new.place ≡ Place.Failed) }
-        ensures err { IfErr result (IsFault (takes_value self.old.place)) }
+        ensures err { IfErr result (IsStepFault (takes_value self.old.place)) }
     {
         self.put_lead()?;
         append_quoted(&mut self.out, text)?;
@@ -135,7 +136,7 @@ impl<const PRETTY: u8> Draft<PRETTY> {
     pub(crate) fn put_name(&mut self, name: &str) -> Result<(), WriteError>
         ensures put { OnOk result (Names name.now self.old self.new) }
         ensures failed { OnErr result (self.new.place ≡ Place.Failed) }
-        ensures err { IfErr result (IsFault (takes_name self.old.place)) }
+        ensures err { IfErr result (IsStepFault (takes_name self.old.place)) }
     {
         let place = self.place;
         self.place = Place::Failed;
@@ -156,7 +157,7 @@ impl<const PRETTY: u8> Draft<PRETTY> {
         ensures put { OnOk result
             (Steps (λ parts. elements_part no_elements ∷ parts) self.old self.new) }
         ensures failed { OnErr result (self.new.place ≡ Place.Failed) }
-        ensures err { IfErr result (IsFault (takes_value self.old.place)) }
+        ensures err { IfErr result (IsStepFault (takes_value self.old.place)) }
     {
         self.put_lead()?;
         self.out.extend_from_slice(b"[")?;
@@ -169,7 +170,7 @@ impl<const PRETTY: u8> Draft<PRETTY> {
         ensures put { OnOk result
             (Steps (λ parts. members_part no_members ∷ parts) self.old self.new) }
         ensures failed { OnErr result (self.new.place ≡ Place.Failed) }
-        ensures err { IfErr result (IsFault (takes_value self.old.place)) }
+        ensures err { IfErr result (IsStepFault (takes_value self.old.place)) }
     {
         self.put_lead()?;
         self.out.extend_from_slice(b"{")?;
@@ -225,7 +226,7 @@ impl<const PRETTY: u8> Draft<PRETTY> {
         ensures put { OnOk result ((d : Document) → IsSound d → IsTextOf d text.now
             → Sets at_key d text.now self.old self.new) }
         ensures failed { OnErr result (self.new.place ≡ Place.Failed) }
-        ensures err { IfErr result (IsFault (takes_scalar at_key self.old.place)) }
+        ensures err { IfErr result (IsStepFault (takes_scalar at_key self.old.place)) }
     {
         if at_key {
             self.put_name(text)
@@ -237,7 +238,7 @@ impl<const PRETTY: u8> Draft<PRETTY> {
     pub(crate) fn set_string(&mut self, text: &str, at_key: bool) -> Result<(), WriteError>
         ensures put { OnOk result (Sets at_key (string text.now) text.now self.old self.new) }
         ensures failed { OnErr result (self.new.place ≡ Place.Failed) }
-        ensures err { IfErr result (IsFault (takes_scalar at_key self.old.place)) }
+        ensures err { IfErr result (IsStepFault (takes_scalar at_key self.old.place)) }
     {
         if at_key {
             self.put_name(text)
@@ -249,7 +250,7 @@ impl<const PRETTY: u8> Draft<PRETTY> {
     pub(crate) fn put_null(&mut self) -> Result<(), WriteError>
         ensures put { OnOk result (Puts null self.old self.new) }
         ensures failed { OnErr result (self.new.place ≡ Place.Failed) }
-        ensures err { IfErr result (IsFault (takes_value self.old.place)) }
+        ensures err { IfErr result (IsStepFault (takes_value self.old.place)) }
     {
         self.put_text("null")
     }
@@ -257,7 +258,7 @@ impl<const PRETTY: u8> Draft<PRETTY> {
     pub(crate) fn set_bool(&mut self, v: bool, at_key: bool) -> Result<(), WriteError>
         ensures put { OnOk result (Sets at_key (boolean v) (truth_text v) self.old self.new) }
         ensures failed { OnErr result (self.new.place ≡ Place.Failed) }
-        ensures err { IfErr result (IsFault (takes_scalar at_key self.old.place)) }
+        ensures err { IfErr result (IsStepFault (takes_scalar at_key self.old.place)) }
     {
         self.set_text(if v { "true" } else { "false" }, at_key)
     }
@@ -266,7 +267,7 @@ impl<const PRETTY: u8> Draft<PRETTY> {
         ensures put { OnOk result (Sets at_key (integer_of v) (signed_decimal v)
             self.old self.new) }
         ensures failed { OnErr result (self.new.place ≡ Place.Failed) }
-        ensures err { IfErr result (IsFault (takes_scalar at_key self.old.place)) }
+        ensures err { IfErr result (IsStepFault (takes_scalar at_key self.old.place)) }
     {
         self.set_text(itoa::Buffer::new().format(v), at_key)
     }
@@ -275,7 +276,7 @@ impl<const PRETTY: u8> Draft<PRETTY> {
         ensures put { OnOk result (Sets at_key (integer false v) (decimal_digits v)
             self.old self.new) }
         ensures failed { OnErr result (self.new.place ≡ Place.Failed) }
-        ensures err { IfErr result (IsFault (takes_scalar at_key self.old.place)) }
+        ensures err { IfErr result (IsStepFault (takes_scalar at_key self.old.place)) }
     {
         self.set_text(itoa::Buffer::new().format(v), at_key)
     }
@@ -284,7 +285,7 @@ impl<const PRETTY: u8> Draft<PRETTY> {
         ensures put { OnOk result (Sets at_key (integer_of v) (signed_decimal v)
             self.old self.new) }
         ensures failed { OnErr result (self.new.place ≡ Place.Failed) }
-        ensures err { IfErr result (IsFault (takes_scalar at_key self.old.place)) }
+        ensures err { IfErr result (IsStepFault (takes_scalar at_key self.old.place)) }
     {
         self.set_text(itoa::Buffer::new().format(v), at_key)
     }
@@ -293,7 +294,7 @@ impl<const PRETTY: u8> Draft<PRETTY> {
         ensures put { OnOk result (Sets at_key (integer false v) (decimal_digits v)
             self.old self.new) }
         ensures failed { OnErr result (self.new.place ≡ Place.Failed) }
-        ensures err { IfErr result (IsFault (takes_scalar at_key self.old.place)) }
+        ensures err { IfErr result (IsStepFault (takes_scalar at_key self.old.place)) }
     {
         self.set_text(itoa::Buffer::new().format(v), at_key)
     }
@@ -318,7 +319,7 @@ impl<const PRETTY: u8> Draft<PRETTY> {
             × (parse_float binary32 literal ≡ Some v)
             × Sets at_key (decimal literal) literal self.old self.new) }
         ensures failed { OnErr result (self.new.place ≡ Place.Failed) }
-        ensures err { IfErr result (λ e. IsFault (takes_scalar at_key self.old.place) e
+        ensures err { IfErr result (λ e. IsStepFault (takes_scalar at_key self.old.place) e
             ⊎ ((float_is_finite v ≡ false) × (e ≡ WriteError.NotFinite))) }
     {
         if !v.is_finite() {
@@ -333,7 +334,7 @@ impl<const PRETTY: u8> Draft<PRETTY> {
             × (parse_float binary64 literal ≡ Some v)
             × Sets at_key (decimal literal) literal self.old self.new) }
         ensures failed { OnErr result (self.new.place ≡ Place.Failed) }
-        ensures err { IfErr result (λ e. IsFault (takes_scalar at_key self.old.place) e
+        ensures err { IfErr result (λ e. IsStepFault (takes_scalar at_key self.old.place) e
             ⊎ ((float_is_finite v ≡ false) × (e ≡ WriteError.NotFinite))) }
     {
         if !v.is_finite() {

@@ -1,6 +1,6 @@
 //! Why nothing was read.
 ghost use Rattle.std.specs.Prelude.{◌≡◌, ◌⊎◌, ◌↔◌, IsTrue};
-ghost use Rattle.simd_json_serde.specs.Words.{words as words_of, expected_words as expected_of};
+ghost use Rattle.simd_json_serde.specs.Words.{found_words, wanted_words};
 
 use crate::path::append_path;
 use simd_json::{Node, ValueType};
@@ -94,14 +94,17 @@ pub struct Mismatch {
 impl Mismatch {
     ghost use Rattle.std.specs.Prelude.{Some};
     ghost use Rattle.std.specs.Fmt.{DisplaysOnOk};
-    ghost use Rattle.simd_json_serde.specs.Messages.{path_of, name_of, reason_text};
+    ghost use Rattle.simd_json_parts.specs.Document.{Document};
+    ghost use Rattle.simd_json_serde.specs.Messages.{path_of, given_name, mismatch_reason};
+    ghost use Rattle.simd_json_serde.specs.Outcomes.{HasPath};
+    ghost use Rattle.simd_json_serde.specs.Paths.{AreOf};
 
     // Of the value around a node, with the name that the reader kept last, if the fault has one.
     // The path is built only now: nothing is kept for it during a read.
     #[cold]
     pub(crate) fn new(alloc: Global, fault: Fault, name: FaultName, nodes: &[Node<'_>]) -> Mismatch
-        ensures { (result.fault.kind ≡ fault.kind)
-            ⊎ (result.fault.kind ≡ MismatchKind.OutOfMemory) }
+        ensures fault { (result.fault ≡ fault) ⊎ (result.fault.kind ≡ MismatchKind.OutOfMemory) }
+        ensures path { (d : Document) → AreOf d nodes.now → HasPath d result }
     {
         let mut path = String::new(alloc);
         if fault.is_memory() || append_path(nodes, &fault, &mut path).is_err() {
@@ -117,7 +120,8 @@ impl Mismatch {
 
     #[cold]
     pub(crate) fn no_memory(alloc: Global) -> Mismatch
-        ensures { result.fault.kind ≡ MismatchKind.OutOfMemory }
+        ensures kind { result.fault.kind ≡ MismatchKind.OutOfMemory }
+        ensures path { (d : Document) → HasPath d result }
     {
         Mismatch::whole(alloc, MismatchKind::OutOfMemory)
     }
@@ -125,7 +129,8 @@ impl Mismatch {
     // Of the value that was read, as a whole.
     #[cold]
     pub(crate) fn whole(alloc: Global, kind: MismatchKind) -> Mismatch
-        ensures { result.fault.kind ≡ kind }
+        ensures kind { result.fault.kind ≡ kind }
+        ensures path { (d : Document) → HasPath d result }
     {
         Mismatch {
             fault: Fault {
@@ -157,7 +162,7 @@ impl Mismatch {
     /// The name of a field that is missing or there twice, or the message of
     /// [`MismatchKind::Custom`]: of both the first 32 bytes. Else it is empty.
     pub fn name(&self) -> &str
-        ensures { result.now ≡ name_of self.now }
+        ensures { result.now ≡ given_name self.now }
     {
         self.name.as_str()
     }
@@ -165,7 +170,7 @@ impl Mismatch {
     // Without the path.
     fn put_reason<W: fmt::Write>(&self, f: &mut fmt::Formatter<W>) -> fmt::Result
         ensures { DisplaysOnOk W.write_str_gives f.old result
-            (Some (reason_text self.now.fault.kind (name_of self.now))) f.new }
+            (Some (mismatch_reason self.now.fault.kind (given_name self.now))) f.new }
     {
         let name = self.name();
         match self.fault.kind {
@@ -188,7 +193,7 @@ impl Mismatch {
 
 // The kind in words. Integers are one kind here, since those of the tape differ by their size.
 fn words(kind: ValueType) -> &'static str
-    ensures { result.now ≡ words_of kind }
+    ensures { result.now ≡ found_words kind }
 {
     match kind {
         ValueType::I64 | ValueType::U64 | ValueType::I128 | ValueType::U128 => "an integer",
@@ -198,7 +203,7 @@ fn words(kind: ValueType) -> &'static str
 
 // The same of the kind that was expected: a float may be any number.
 fn expected_words(kind: ValueType) -> &'static str
-    ensures { result.now ≡ expected_of kind }
+    ensures { result.now ≡ wanted_words kind }
 {
     match kind {
         ValueType::Decimal => "a number",
@@ -208,9 +213,9 @@ fn expected_words(kind: ValueType) -> &'static str
 
 impl fmt::Display for Mismatch {
     ghost use Rattle.std.specs.Prelude.{Some};
-    ghost use Rattle.simd_json_serde.specs.Messages.{mismatch_text};
+    ghost use Rattle.simd_json_serde.specs.Messages.{printed_mismatch};
 
-    ghost output = { λ m. Some (mismatch_text m) };
+    ghost output = { λ m. Some (printed_mismatch m) };
 
     fn fmt<W: fmt::Write>(&self, f: &mut fmt::Formatter<W>) -> fmt::Result {
         let path = self.path();
@@ -239,10 +244,12 @@ pub enum Error {
 }
 
 impl Error {
-    ghost use Rattle.simd_json_serde.specs.Outcomes.{IsNoMemory, IsOf};
+    ghost use Rattle.simd_json_parts.specs.Document.{Document};
+    ghost use Rattle.simd_json_serde.specs.Outcomes.{HasErrorPath, IsNoMemory, IsOf};
 
     pub(crate) fn no_memory(alloc: Global) -> Error
-        ensures { IsNoMemory result }
+        ensures kind { IsNoMemory result }
+        ensures path { (d : Document) → HasErrorPath d result }
     {
         Error::Mismatch(Mismatch::no_memory(alloc))
     }

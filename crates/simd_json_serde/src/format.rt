@@ -12,13 +12,13 @@ ghost use Rattle.serde.specs.Event.{nothing, seq_begins, seq_ends, map_begins, m
 ghost use Rattle.serde.specs.Event.{key_begins};
 ghost use Rattle.simd_json_serde.specs.Ahead.{ahead, truth, signed, unsigned, float, text};
 ghost use Rattle.simd_json_serde.specs.Ahead.{kind_in, is_null, array_count, object_count};
-ghost use Rattle.simd_json_serde.specs.Ahead.{CanEnter, CanSkip, IsLeft};
-ghost use Rattle.simd_json_serde.specs.Faults.{fault_at, length_fault, IsFull};
+ghost use Rattle.simd_json_serde.specs.Ahead.{CanEnter, CanSkip, NothingIsLeft};
+ghost use Rattle.simd_json_serde.specs.Faults.{reader_fault, length_fault, IsFull, IsOfNext};
 ghost use Rattle.simd_json_parts.specs.Document.{Document};
 ghost use Rattle.simd_json_parts.specs.Listing.{listing};
 ghost use Rattle.simd_json_parts.specs.Nodes.{item_of};
 ghost use Rattle.simd_json_parts.specs.declared.node.Node.{Node as SpecNode};
-ghost use Rattle.simd_json_serde.specs.Steps.{Reads, Picks, Stands, nodes_beneath};
+ghost use Rattle.simd_json_serde.specs.Steps.{ReadsAs, PicksName, Stands, nodes_beneath};
 ghost use Rattle.simd_json_serde.specs.Places.{place};
 
 use crate::error::{Fault, MismatchKind};
@@ -34,17 +34,19 @@ impl<'n, 'i> Format for NodeReader<'n, 'i> {
 
     type Mark = Mark;
 
-    ghost gives = { λ old _ e new. Reads (place old) e (place new) };
+    ghost gives = { λ old _ e new. ReadsAs (place old) e (place new) };
 
-    ghost picks = { λ old _ is_key names at new. Picks (place old) is_key names at (place new) };
+    ghost picks = { λ old _ is_key names at new.
+        PicksName (place old) is_key names at (place new) };
 
     ghost stays = { λ old new. place new ≡ place old };
 
     #[inline(always)]
     fn bool(&mut self, _input: &[u8]) -> Result<bool, Fault>
-        ensures given { IfOk result (λ v. Reads (place self.old) (boolean v) (place self.new)) }
+        ensures given { IfOk result (λ v. ReadsAs (place self.old) (boolean v) (place self.new)) }
         ensures exact { self.old.at_key ≡ false
             → result_ok result ≡ ahead truth (place self.old) }
+        ensures place { IfErr result (IsOfNext self.old) }
     {
         let at_key = self.at_key;
         match self.take()? {
@@ -58,9 +60,10 @@ impl<'n, 'i> Format for NodeReader<'n, 'i> {
     #[inline(always)]
     fn i64(&mut self, _input: &[u8]) -> Result<i64, Fault>
         ensures given { IfOk result
-            (λ v. Reads (place self.old) (signed_event v) (place self.new)) }
+            (λ v. ReadsAs (place self.old) (signed_event v) (place self.new)) }
         ensures exact { self.old.at_key ≡ false
             → result_ok result ≡ ahead (signed 64) (place self.old) }
+        ensures place { IfErr result (IsOfNext self.old) }
     {
         let at_key = self.at_key;
         match self.take()? {
@@ -79,9 +82,10 @@ impl<'n, 'i> Format for NodeReader<'n, 'i> {
     #[inline(always)]
     fn u64(&mut self, _input: &[u8]) -> Result<u64, Fault>
         ensures given { IfOk result
-            (λ v. Reads (place self.old) (unsigned_event v) (place self.new)) }
+            (λ v. ReadsAs (place self.old) (unsigned_event v) (place self.new)) }
         ensures exact { self.old.at_key ≡ false
             → result_ok result ≡ ahead (unsigned 64) (place self.old) }
+        ensures place { IfErr result (IsOfNext self.old) }
     {
         let at_key = self.at_key;
         match self.take()? {
@@ -99,9 +103,10 @@ impl<'n, 'i> Format for NodeReader<'n, 'i> {
 
     fn i128(&mut self, _input: &[u8]) -> Result<i128, Fault>
         ensures given { IfOk result
-            (λ v. Reads (place self.old) (signed_event v) (place self.new)) }
+            (λ v. ReadsAs (place self.old) (signed_event v) (place self.new)) }
         ensures exact { self.old.at_key ≡ false
             → result_ok result ≡ ahead (signed 128) (place self.old) }
+        ensures place { IfErr result (IsOfNext self.old) }
     {
         let at_key = self.at_key;
         match self.take()? {
@@ -119,9 +124,10 @@ impl<'n, 'i> Format for NodeReader<'n, 'i> {
 
     fn u128(&mut self, _input: &[u8]) -> Result<u128, Fault>
         ensures given { IfOk result
-            (λ v. Reads (place self.old) (unsigned_event v) (place self.new)) }
+            (λ v. ReadsAs (place self.old) (unsigned_event v) (place self.new)) }
         ensures exact { self.old.at_key ≡ false
             → result_ok result ≡ ahead (unsigned 128) (place self.old) }
+        ensures place { IfErr result (IsOfNext self.old) }
     {
         let at_key = self.at_key;
         match self.take()? {
@@ -138,8 +144,9 @@ impl<'n, 'i> Format for NodeReader<'n, 'i> {
     }
 
     fn f32(&mut self, _input: &[u8]) -> Result<f32, Fault>
-        ensures given { IfOk result (λ v. Reads (place self.old) (single v) (place self.new)) }
+        ensures given { IfOk result (λ v. ReadsAs (place self.old) (single v) (place self.new)) }
         ensures exact { result_ok result ≡ ahead (float binary32) (place self.old) }
+        ensures place { IfErr result (IsOfNext self.old) }
     {
         let mut digits = itoa::Buffer::new();
         match self.take()? {
@@ -154,8 +161,9 @@ impl<'n, 'i> Format for NodeReader<'n, 'i> {
 
     #[inline(always)]
     fn f64(&mut self, _input: &[u8]) -> Result<f64, Fault>
-        ensures given { IfOk result (λ v. Reads (place self.old) (double v) (place self.new)) }
+        ensures given { IfOk result (λ v. ReadsAs (place self.old) (double v) (place self.new)) }
         ensures exact { result_ok result ≡ ahead (float binary64) (place self.old) }
+        ensures place { IfErr result (IsOfNext self.old) }
     {
         match self.take()? {
             Node::Decimal(literal) => self.nearest_f64(literal),
@@ -174,10 +182,11 @@ impl<'n, 'i> Format for NodeReader<'n, 'i> {
     }
 
     fn char(&mut self, _input: &[u8]) -> Result<char, Fault>
-        ensures given { IfOk result (λ v. Reads (place self.old) (character v) (place self.new)) }
+        ensures given { IfOk result (λ v. ReadsAs (place self.old) (character v) (place self.new)) }
         ensures ok { IfOk result (λ c. ahead text (place self.old) ≡ Some (encode_utf8 c)) }
         ensures err { OnErr result ((c : ℕ) → IsScalar c
             → ahead text (place self.old) ≢ Some (encode_utf8 c)) }
+        ensures place { IfErr result (IsOfNext self.old) }
     {
         match self.take_string()?.parse::<char>() {
             Ok(c) => Ok(c),
@@ -210,10 +219,11 @@ impl<'n, 'i> Format for NodeReader<'n, 'i> {
     #[inline(always)]
     fn string(&mut self, alloc: Global, _input: &[u8]) -> Result<String, Fault>
         ensures given { IfOk result
-            (λ v. Reads (place self.old) (text_event (string_bytes v)) (place self.new)) }
+            (λ v. ReadsAs (place self.old) (text_event (string_bytes v)) (place self.new)) }
         ensures ok { IfOk result (λ s. ahead text (place self.old) ≡ Some (string_bytes s)) }
         ensures err { IfErr result (λ e. (e.kind ≡ MismatchKind.OutOfMemory)
             ⊎ (ahead text (place self.old) ≡ None)) }
+        ensures place { IfErr result (IsOfNext self.old) }
     {
         match String::from_str(alloc, self.take_string()?) {
             Ok(text) => Ok(text),
@@ -249,6 +259,7 @@ impl<'n, 'i> Format for NodeReader<'n, 'i> {
         ensures stays { OnOk result (place self.new ≡ place self.old) }
         ensures exact { result_ok result
             ≡ ahead (λ item. Some (kind_in item)) (place self.old) }
+        ensures place { IfErr result (IsOfNext self.old) }
     {
         let node = self.look()?;
         self.looked = true;
@@ -258,10 +269,11 @@ impl<'n, 'i> Format for NodeReader<'n, 'i> {
     #[inline(always)]
     fn take_unit(&mut self, _input: &[u8]) -> Result<bool, Fault>
         ensures given { IfOk result
-            (λ b. MatchBool b (Reads (place self.old) nothing (place self.new))
+            (λ b. MatchBool b (ReadsAs (place self.old) nothing (place self.new))
             (place self.new ≡ place self.old)) }
         ensures exact { result_ok result
             ≡ ahead (λ item. Some (is_null item)) (place self.old) }
+        ensures place { IfErr result (IsOfNext self.old) }
     {
         if let Node::Static(StaticNode::Null) = self.look()? {
             self.take()?;
@@ -274,19 +286,21 @@ impl<'n, 'i> Format for NodeReader<'n, 'i> {
     #[inline(always)]
     fn take_none(&mut self, input: &[u8]) -> Result<bool, Fault>
         ensures given { IfOk result
-            (λ b. MatchBool b (Reads (place self.old) nothing (place self.new))
+            (λ b. MatchBool b (ReadsAs (place self.old) nothing (place self.new))
             (place self.new ≡ place self.old)) }
         ensures exact { result_ok result
             ≡ ahead (λ item. Some (is_null item)) (place self.old) }
+        ensures place { IfErr result (IsOfNext self.old) }
     {
         self.take_unit(input)
     }
 
     #[inline(always)]
     fn begin_seq(&mut self, _input: &[u8]) -> Result<(), Fault>
-        ensures given { OnOk result (Reads (place self.old) (seq_begins None) (place self.new)) }
+        ensures given { OnOk result (ReadsAs (place self.old) (seq_begins None) (place self.new)) }
         ensures err { IfErr result (λ e. CanEnter array_count (place self.old)
             → IsFull self.old e) }
+        ensures place { IfErr result (IsOfNext self.old) }
     {
         match self.take()? {
             Node::Array { count, .. } => self.enter(count),
@@ -297,9 +311,10 @@ impl<'n, 'i> Format for NodeReader<'n, 'i> {
     #[inline(always)]
     fn next_item(&mut self, _input: &[u8]) -> Result<bool, Fault>
         ensures given { IfOk result (λ b. MatchBool b (place self.new ≡ place self.old)
-            (Reads (place self.old) seq_ends (place self.new))) }
+            (ReadsAs (place self.old) seq_ends (place self.new))) }
         ensures more { IfOk result (λ b. b ≡ nat_lt self.old.at self.old.end) }
-        ensures err { OnErr result (IsLeft (place self.old)) }
+        ensures err { OnErr result (NothingIsLeft (place self.old)) }
+        ensures place { IfErr result (IsOfNext self.old) }
     {
         if self.at < self.end {
             self.looked = true;
@@ -311,9 +326,10 @@ impl<'n, 'i> Format for NodeReader<'n, 'i> {
 
     #[inline(always)]
     fn begin_map(&mut self, _input: &[u8]) -> Result<(), Fault>
-        ensures given { OnOk result (Reads (place self.old) (map_begins None) (place self.new)) }
+        ensures given { OnOk result (ReadsAs (place self.old) (map_begins None) (place self.new)) }
         ensures err { IfErr result (λ e. CanEnter object_count (place self.old)
             → IsFull self.old e) }
+        ensures place { IfErr result (IsOfNext self.old) }
     {
         match self.take()? {
             Node::Object { count, .. } => self.enter(count),
@@ -339,11 +355,12 @@ impl<'n, 'i> Format for NodeReader<'n, 'i> {
     #[inline(always)]
     fn next_key(&mut self, _input: &[u8], names: &[Name<'_>]) -> Result<Option<usize>, Fault>
         ensures given { IfOk result
-            (λ o. MatchOption o (Reads (place self.old) map_ends (place self.new))
-            (λ at. Picks (place self.old) true names.now at (place self.new))) }
+            (λ o. MatchOption o (ReadsAs (place self.old) map_ends (place self.new))
+            (λ at. PicksName (place self.old) true names.now at (place self.new))) }
         ensures more { IfOk result (λ o. is_some o ≡ nat_lt self.old.at self.old.end) }
         ensures err { OnErr result
-            (IsLeft (place self.old) ⊎ (ahead text (place self.old) ≡ None)) }
+            (NothingIsLeft (place self.old) ⊎ (ahead text (place self.old) ≡ None)) }
+        ensures place { IfErr result (IsOfNext self.old) }
     {
         if self.at < self.end {
             return Ok(Some(serde::find(names, self.take_string()?)));
@@ -355,10 +372,11 @@ impl<'n, 'i> Format for NodeReader<'n, 'i> {
     #[inline(always)]
     fn next_entry(&mut self, _input: &[u8]) -> Result<bool, Fault>
         ensures given { IfOk result
-            (λ b. MatchBool b (Reads (place self.old) key_begins (place self.new))
-            (Reads (place self.old) map_ends (place self.new))) }
+            (λ b. MatchBool b (ReadsAs (place self.old) key_begins (place self.new))
+            (ReadsAs (place self.old) map_ends (place self.new))) }
         ensures more { IfOk result (λ b. b ≡ nat_lt self.old.at self.old.end) }
-        ensures err { OnErr result (IsLeft (place self.old)) }
+        ensures err { OnErr result (NothingIsLeft (place self.old)) }
+        ensures place { IfErr result (IsOfNext self.old) }
     {
         if self.at < self.end {
             self.at_key = true;
@@ -370,8 +388,9 @@ impl<'n, 'i> Format for NodeReader<'n, 'i> {
 
     fn variant(&mut self, _input: &[u8], names: &[Name<'_>]) -> Result<usize, Fault>
         ensures given { IfOk result
-            (λ at. Picks (place self.old) false names.now at (place self.new)) }
+            (λ at. PicksName (place self.old) false names.now at (place self.new)) }
         ensures err { OnErr result (ahead text (place self.old) ≡ None) }
+        ensures place { IfErr result (IsOfNext self.old) }
     {
         Ok(serde::find(names, self.take_string()?))
     }
@@ -388,6 +407,7 @@ impl<'n, 'i> Format for NodeReader<'n, 'i> {
         ensures value { OnOk result ((d : Document) → Stands (place self.old) d
             → self.new.at ≡ self.old.at + length (listing d)) }
         ensures err { OnErr result (CanSkip (place self.old) → ⊥) }
+        ensures place { IfErr result (IsOfNext self.old) }
     {
         let node = self.take()?;
         let count = beneath(&node);
@@ -439,28 +459,28 @@ impl<'n, 'i> Format for NodeReader<'n, 'i> {
 
     #[cold]
     fn missing(&self, name: &str) -> Fault
-        ensures { result ≡ fault_at self.now MismatchKind.MissingField }
+        ensures { result ≡ reader_fault self.now MismatchKind.MissingField }
     {
         self.named_fault(MismatchKind::MissingField, name)
     }
 
     #[cold]
     fn duplicate(&self, name: &str) -> Fault
-        ensures { result ≡ fault_at self.now MismatchKind.DuplicateField }
+        ensures { result ≡ reader_fault self.now MismatchKind.DuplicateField }
     {
         self.named_fault(MismatchKind::DuplicateField, name)
     }
 
     #[cold]
     fn unknown_key(&self) -> Fault
-        ensures { result ≡ fault_at self.now MismatchKind.UnknownField }
+        ensures { result ≡ reader_fault self.now MismatchKind.UnknownField }
     {
         self.fault(MismatchKind::UnknownField)
     }
 
     #[cold]
     fn unknown_variant(&self) -> Fault
-        ensures { result ≡ fault_at self.now MismatchKind.UnknownVariant }
+        ensures { result ≡ reader_fault self.now MismatchKind.UnknownVariant }
     {
         self.fault(MismatchKind::UnknownVariant)
     }
@@ -479,21 +499,21 @@ impl<'n, 'i> Format for NodeReader<'n, 'i> {
 
     #[cold]
     fn invalid(&self) -> Fault
-        ensures { result ≡ fault_at self.now MismatchKind.InvalidValue }
+        ensures { result ≡ reader_fault self.now MismatchKind.InvalidValue }
     {
         self.fault(MismatchKind::InvalidValue)
     }
 
     #[cold]
     fn no_memory(&self) -> Fault
-        ensures { result ≡ fault_at self.now MismatchKind.OutOfMemory }
+        ensures { result ≡ reader_fault self.now MismatchKind.OutOfMemory }
     {
         self.fault(MismatchKind::OutOfMemory)
     }
 
     #[cold]
     fn custom(&self, message: &str) -> Fault
-        ensures { result ≡ fault_at self.now MismatchKind.Custom }
+        ensures { result ≡ reader_fault self.now MismatchKind.Custom }
     {
         self.named_fault(MismatchKind::Custom, message)
     }

@@ -67,10 +67,11 @@
 //! # What is proved
 //!
 //! A value and a [`Mismatch`] are returned only if the input is a document of RFC 8259 within the
-//! limits, and else the parse's first error (`IsRead`). Each step of [`NodeReader`] returns what
-//! the node that it takes says, and `skip` passes one value (`Reads`, `Picks`); a scalar is read
-//! exactly where the accessor of `simd_json` has one. A mismatch prints its path and the words of
-//! its kind.
+//! limits, and else the parse's first error (`IsTypedRead`). Each step of [`NodeReader`] returns
+//! what the node that it takes says, and `skip` passes one value (`ReadsAs`, `PicksName`); where a
+//! step fails, its error is of the next node (`IsOfNext`). A scalar is read exactly where the
+//! accessor of `simd_json` has one. The path of a mismatch is the way to the node that its error is
+//! of (`way`), and it prints this path and the words of its kind.
 //!
 //! A text that is written is that of the document to which the events lead that the value sends, in
 //! their order (`IsPrinted`): of a number, a truth value, a string, `()` and `None` the one literal
@@ -79,8 +80,8 @@
 //! (`specs/WriteFaults.antt`).
 //!
 //! Not proved, but tested beside `serde_json`: that a derived type is read as the document says,
-//! and what it sends, since derives have no contract; the path of a mismatch; that [`read`] gives
-//! up no capacity of its [`Texts`], which are lent to the type.
+//! and what it sends, since derives have no contract; the path of a mismatch of [`from_slice`];
+//! that [`read`] gives up no capacity of its [`Texts`], which are lent to the type.
 #![tactic(auto)]
 
 mod draft;

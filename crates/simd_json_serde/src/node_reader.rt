@@ -4,10 +4,10 @@ ghost use Rattle.std.specs.Prelude.{◌^◌, IfOk, IfErr, OnOk, OnErr, option_ma
 ghost use Rattle.std.specs.Result.{result_ok};
 ghost use Rattle.simd_json_parts.specs.Nodes.{item_of, string_item};
 ghost use Rattle.simd_json_parts.specs.NodeTypes.{item_type};
-ghost use Rattle.simd_json_serde.specs.Steps.{IsTaken, Takes, nodes_beneath};
+ghost use Rattle.simd_json_serde.specs.Steps.{IsNodeTaken, TakesNode, nodes_beneath};
 ghost use Rattle.simd_json_serde.specs.Places.{place};
 ghost use Rattle.simd_json_serde.specs.Ahead.{ahead, node_ahead, text};
-ghost use Rattle.simd_json_serde.specs.Faults.{fault_at, IsFull};
+ghost use Rattle.simd_json_serde.specs.Faults.{reader_fault, IsFull, IsOfNext};
 
 use crate::error::{Fault, FaultName, MismatchKind};
 use simd_json::{Node, ValueType};
@@ -95,7 +95,7 @@ impl<'n, 'i> NodeReader<'n, 'i> {
     #[cold]
     #[inline(never)]
     pub(crate) fn named_fault(&self, kind: MismatchKind, name: &str) -> Fault
-        ensures { result ≡ fault_at self.now kind }
+        ensures { result ≡ reader_fault self.now kind }
     {
         self.name.set(FaultName::of(name));
         self.fault(kind)
@@ -111,7 +111,7 @@ impl<'n, 'i> NodeReader<'n, 'i> {
     #[cold]
     #[inline(never)]
     pub(crate) fn fault(&self, kind: MismatchKind) -> Fault
-        ensures { result ≡ fault_at self.now kind }
+        ensures { result ≡ reader_fault self.now kind }
     {
         let node = if self.looked {
             self.at
@@ -128,7 +128,7 @@ impl<'n, 'i> NodeReader<'n, 'i> {
     #[cold]
     #[inline(never)]
     pub(crate) fn unexpected(&self, expected: ValueType, got: Node<'i>) -> Fault
-        ensures { result ≡ fault_at self.now (MismatchKind.InvalidType expected
+        ensures { result ≡ reader_fault self.now (MismatchKind.InvalidType expected
             (item_type (item_of got.entry))) }
     {
         let got = got.value_type();
@@ -141,6 +141,7 @@ impl<'n, 'i> NodeReader<'n, 'i> {
         ensures taken { IfOk result (λ n. (self.now.at < self.now.end)
             × (slice_get self.now.nodes.now self.now.at ≡ Some n)) }
         ensures exact { result_ok result ≡ node_ahead (place self.now) }
+        ensures none { IfErr result (λ e. e ≡ reader_fault self.now MismatchKind.MissingValue) }
     {
         match self.nodes.get(self.at) {
             Some(node) if self.at < self.end => Ok(*node),
@@ -151,9 +152,11 @@ impl<'n, 'i> NodeReader<'n, 'i> {
     // The next node, which is passed.
     #[inline(always)]
     pub(crate) fn take(&mut self) -> Result<Node<'i>, Fault>
-        ensures taken { IfOk result (λ n. IsTaken (place self.old) n (place self.new)) }
+        ensures taken { IfOk result (λ n. IsNodeTaken (place self.old) n (place self.new)) }
         ensures exact { result_ok result ≡ node_ahead (place self.old) }
         ensures kept { self.new.outer ≡ self.old.outer }
+        ensures fresh { OnOk result (self.new.looked ≡ false) }
+        ensures none { IfErr result (λ e. e ≡ reader_fault self.old MismatchKind.MissingValue) }
     {
         let node = self.look()?;
         self.at += 1;
@@ -164,10 +167,13 @@ impl<'n, 'i> NodeReader<'n, 'i> {
 
     #[inline(always)]
     pub(crate) fn take_string(&mut self) -> Result<&'i str, Fault>
-        ensures taken { IfOk result (λ s. Takes (place self.old)
+        ensures taken { IfOk result (λ s. TakesNode (place self.old)
             (λ _ item. item ≡ string_item s.now) (place self.new)) }
         ensures exact { option_map (λ s. s.now) (result_ok result)
             ≡ ahead text (place self.old) }
+        ensures place { IfErr result (IsOfNext self.old) }
+        ensures fresh { OnOk result (self.new.looked ≡ false) }
+        ensures kept { self.new.outer ≡ self.old.outer }
     {
         match self.take()? {
             Node::String(text) => Ok(text),
@@ -183,6 +189,7 @@ impl<'n, 'i> NodeReader<'n, 'i> {
           outer = self.old.outer.items ++ self.old.end ∷ [];
         }) }
         ensures err { IfErr result (λ e. self.old.at + count < 2 ^ 64 → IsFull self.old e) }
+        ensures place { IfErr result (λ e. e ≡ reader_fault self.old e.kind) }
     {
         let Some(end) = self.at.checked_add(count) else {
             return Err(self.fault(MismatchKind::MissingValue));
@@ -201,6 +208,7 @@ impl<'n, 'i> NodeReader<'n, 'i> {
             × (self.old.outer.items ≡ self.new.outer.items ++ self.new.end ∷ [])
             × (self.new.nodes ≡ self.old.nodes) × (self.new.at_key ≡ self.old.at_key)) }
         ensures err { OnErr result (self.old.outer.items ≡ []) }
+        ensures none { IfErr result (λ e. e ≡ reader_fault self.old MismatchKind.MissingValue) }
     {
         match self.outer.pop() {
             Some(end) => {

@@ -4,11 +4,15 @@ ghost use Rattle.std.specs.Vec.{vec_capacity};
 ghost use Rattle.std.specs.Result.{result_ok};
 ghost use Rattle.simd_json_check.specs.Capacities.{default_max_depth};
 ghost use Rattle.simd_json.specs.Reserved.{IsReserved};
+ghost use Rattle.simd_json.specs.Viewed.{doc};
+ghost use Rattle.simd_json_parts.specs.Document.{Document};
+ghost use Rattle.simd_json_parts.specs.Listing.{listing};
 ghost use Rattle.simd_json_serde.specs.Kept.{capacity};
-ghost use Rattle.simd_json_serde.specs.Outcomes.{IsRead, IsLate, IsOf, IsNoMemory};
-ghost use Rattle.simd_json_serde.specs.Outcomes.{HasParseMemory};
+ghost use Rattle.simd_json_serde.specs.Outcomes.{IsTypedRead, IsLate, IsOf, IsNoMemory};
+ghost use Rattle.simd_json_serde.specs.Outcomes.{HasErrorPath, HasParseMemory, HasPathIn};
+ghost use Rattle.simd_json_serde.specs.Paths.{AreOf};
 
-use crate::error::{Error, Fault, Mismatch};
+use crate::error::{Error, Fault, FaultName, Mismatch};
 use crate::node_reader::NodeReader;
 use crate::texts::{attach, copy_strings, detach};
 use serde::{Deserialize, DeserializeOwned, Deserializer};
@@ -26,7 +30,7 @@ use std::alloc::{AllocError, Global};
 /// [`to_tape`](simd_json::to_tape), and a [`Mismatch`] where it does not fit the type, or an
 /// allocation fails after the parse.
 pub fn from_slice<'de, T: Deserialize<'de>>(alloc: Global, input: &'de mut [u8]) -> Result<T, Error>
-    ensures { IsRead input.old default_max_depth result }
+    ensures { IsTypedRead input.old default_max_depth result }
 {
     let mut text = String::new(alloc);
     let mut starts = Vec::new(alloc);
@@ -52,7 +56,7 @@ fn parse_detached(
     starts: &mut Vec<u32>,
     bare: &mut Vec<Node<'static>>,
 ) -> Result<(), Error>
-    ensures { IsRead input.old default_max_depth result }
+    ensures { IsTypedRead input.old default_max_depth result }
 {
     match to_tape(alloc, input) {
         Ok(tape) => match detach(tape.nodes(), text, starts, bare) {
@@ -67,7 +71,8 @@ fn parse_detached(
 ///
 /// Returns errors as [`from_slice`] does.
 pub fn from_slice_owned<T: DeserializeOwned>(alloc: Global, input: &mut [u8]) -> Result<T, Error>
-    ensures { IsRead input.old default_max_depth result }
+    ensures read { IsTypedRead input.old default_max_depth result }
+    ensures path { IfErr result (HasPathIn input.old) }
 {
     let tape = match to_tape(alloc, input) {
         Ok(tape) => tape,
@@ -81,7 +86,9 @@ pub fn from_slice_owned<T: DeserializeOwned>(alloc: Global, input: &mut [u8]) ->
 /// Returns a [`Mismatch`] where it does not fit the type, the tape is empty, or an allocation
 /// fails.
 pub fn from_tape<T: DeserializeOwned>(alloc: Global, tape: &Tape<'_, Global>) -> Result<T, Error>
-    ensures { IsLate result }
+    ensures late { IsLate result }
+    ensures path { (d : Document) → tape.now.nodes ≡ listing d
+        → IfErr result (HasErrorPath d) }
 {
     let mut reader = NodeReader::new(tape.nodes(), Vec::new(alloc));
     read_one_owned(alloc, &mut reader)
@@ -93,7 +100,8 @@ pub fn from_tape<T: DeserializeOwned>(alloc: Global, tape: &Tape<'_, Global>) ->
 /// Returns a [`Mismatch`] where it does not fit the type, with its path from this value on, or an
 /// allocation fails.
 pub fn from_value<T: DeserializeOwned>(alloc: Global, value: &Value<'_, '_>) -> Result<T, Error>
-    ensures { IsLate result }
+    ensures late { IsLate result }
+    ensures path { IfErr result (HasErrorPath (doc value.now)) }
 {
     let mut reader = NodeReader::new(value.nodes(), Vec::new(alloc));
     read_one_owned(alloc, &mut reader)
@@ -150,7 +158,8 @@ pub fn read<'de, 'k, T: Deserialize<'de>>(
     kept: Tape<'k, Global>,
     texts: &'de mut Texts,
 ) -> (Result<T, Error>, Tape<'k, Global>)
-    ensures read { IsRead input.old buffers.old.limit result.0 }
+    ensures read { IsTypedRead input.old buffers.old.limit result.0 }
+    ensures path { IfErr result.0 (HasPathIn input.old) }
     ensures limit { buffers.new.limit ≡ buffers.old.limit }
     ensures reserved { (len : ℕ) → IsReserved len buffers.old kept.entry
         → IsReserved len buffers.new result.1
@@ -171,7 +180,8 @@ pub fn read_owned<'k, T: DeserializeOwned>(
     kept: Tape<'k, Global>,
     texts: &mut Texts,
 ) -> (Result<T, Error>, Tape<'k, Global>)
-    ensures read { IsRead input.old buffers.old.limit result.0 }
+    ensures read { IsTypedRead input.old buffers.old.limit result.0 }
+    ensures path { IfErr result.0 (HasPathIn input.old) }
     ensures kept { (capacity texts.old ≤ capacity texts.new) ⊎ IfErr result.0 IsNoMemory }
     ensures limit { buffers.new.limit ≡ buffers.old.limit }
     ensures reserved { (len : ℕ) → IsReserved len buffers.old kept.entry
@@ -190,7 +200,8 @@ fn read_nodes<'de, T: Deserialize<'de>>(
     nodes: &[Node<'_>],
     texts: &'de mut Texts,
 ) -> Result<T, Error>
-    ensures { IsLate result }
+    ensures late { IsLate result }
+    ensures path { (d : Document) → AreOf d nodes.now → IfErr result (HasErrorPath d) }
 {
     let Texts {
         alloc,
@@ -215,6 +226,7 @@ fn read_nodes<'de, T: Deserialize<'de>>(
 
 fn read_nodes_owned<T: DeserializeOwned>(nodes: &[Node<'_>], texts: &mut Texts) -> Result<T, Error>
     ensures late { IsLate result }
+    ensures path { (d : Document) → AreOf d nodes.now → IfErr result (HasErrorPath d) }
     ensures kept { (capacity texts.old ≤ capacity texts.new) ⊎ IfErr result IsNoMemory }
 {
     let room = texts.outer.capacity();
@@ -244,20 +256,26 @@ fn read_one<'de, T: Deserialize<'de>>(
     input: &'de [u8],
     reader: &mut NodeReader<'_, '_>,
 ) -> Result<T, Error>
-    ensures { IsLate result }
+    ensures late { IsLate result }
+    ensures path { (d : Document) → AreOf d reader.old.nodes.now
+        → IfErr result (HasErrorPath d) }
 {
+    let nodes = reader.nodes;
     let read = T::deserialize(alloc, &mut Deserializer::new(input, reader));
-    located(alloc, read, reader)
+    located(alloc, read, nodes, reader.last_name())
 }
 
 fn read_one_owned<T: DeserializeOwned>(
     alloc: Global,
     reader: &mut NodeReader<'_, '_>,
 ) -> Result<T, Error>
-    ensures { IsLate result }
+    ensures late { IsLate result }
+    ensures path { (d : Document) → AreOf d reader.old.nodes.now
+        → IfErr result (HasErrorPath d) }
 {
+    let nodes = reader.nodes;
     let read = T::deserialize_owned(alloc, &mut Deserializer::new(&[], reader));
-    located(alloc, read, reader)
+    located(alloc, read, nodes, reader.last_name())
 }
 
 // The read, with the path of a value that does not fit.
@@ -265,17 +283,16 @@ fn read_one_owned<T: DeserializeOwned>(
 pub(crate) fn located<T>(
     alloc: Global,
     read: Result<T, Fault>,
-    reader: &NodeReader<'_, '_>,
+    nodes: &[Node<'_>],
+    name: FaultName,
 ) -> Result<T, Error>
     ensures late { IsLate result }
+    ensures path { (d : Document) → AreOf d nodes.now → IfErr result (HasErrorPath d) }
     ensures same { result_ok result ≡ result_ok read }
     ensures kind { IfErr read (λ fault. IfErr result (IsOf fault.kind)) }
 {
     match read {
         Ok(value) => Ok(value),
-        Err(fault) => {
-            let name = reader.last_name();
-            Err(Error::Mismatch(Mismatch::new(alloc, fault, name, reader.nodes)))
-        }
+        Err(fault) => Err(Error::Mismatch(Mismatch::new(alloc, fault, name, nodes))),
     }
 }

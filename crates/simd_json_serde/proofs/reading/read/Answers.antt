@@ -10,7 +10,7 @@ returns-clause-reserved g c len held =
     let both = c.refill_tape-parsed.ensures.reserved len held in (
       subst (IsReserved len c.refill_tape-parsed.new.buffers) (sym c.reset.ensures) both.0,
       λ short. elim c.match-parsed.branch [
-        | in-Ok w ↦ subst HasParseMemory (sym w.read-is) (late_has_memory _ w.read_nodes-read.ensures)
+        | in-Ok w ↦ subst HasParseMemory (sym w.read-is) (late_has_memory _ w.read_nodes-read.ensures.late)
         | in-Err w ↦ subst HasParseMemory (sym w.read-is) (rejected_has_memory _ _ w.in-Err.is (both.1 short))
       ],
     )
