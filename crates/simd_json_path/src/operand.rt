@@ -2,7 +2,8 @@
 ghost use Rattle.std.specs.Prelude.{◌≡◌, Some, cond, is_none, length, option_and_then, option_map};
 ghost use Rattle.std.specs.Str.{chars};
 ghost use Rattle.simd_json.specs.Viewed.{doc};
-ghost use Rattle.simd_json_path.specs.Comparisons.{both, compares, equals, is_less, primitive, same_primitives};
+ghost use Rattle.simd_json_path.specs.Comparisons.{both, compares, equals, is_less, primitive};
+ghost use Rattle.simd_json_path.specs.Comparisons.{same_primitives};
 ghost use Rattle.simd_json_path.specs.Filters.{length_of, operand, selected_node};
 ghost use Rattle.simd_json_path.specs.Operands.{operand_value, scalar_value};
 

@@ -109,7 +109,8 @@ fn same_value(left: Object<'_, '_>, right: Object<'_, '_>, key: &str, levels: us
 
 // Whether a key is one of the first so many keys.
 fn is_among(key: &str, keys: object::Keys<'_, '_>, count: usize) -> bool
-    ensures { result ≡ list_any (λ other. bytes_eq other key.now) (take count (keys_left keys.entry)) }
+    ensures { result
+        ≡ list_any (λ other. bytes_eq other key.now) (take count (keys_left keys.entry)) }
 {
     let mut others = keys;
     let mut left = count;
