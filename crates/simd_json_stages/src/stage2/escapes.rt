@@ -109,8 +109,8 @@ fn start(blocks: &[u32], next: usize) -> usize
 
 // The index of the last quote before index `end`, which closes the string whose opening quote has
 // index `at`. Usually it is right before `end`. That is tested before the loop, which is slower.
-// `rest` is the input from index `base` on: with one from `at` on, each number costs four
-// instructions more.
+// `rest` is the input from index `base` on: a slice from `at` on takes registers that the loops
+// over numbers need.
 #[inline(always)]
 pub(super) fn last_quote(rest: &[u8], base: usize, at: usize, end: usize) -> usize
     requires { HasQuoted (λ b i. (drop base b ≡ rest.now) × (base ≤ i)) at end }
