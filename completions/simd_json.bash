@@ -9,7 +9,7 @@ _simd_json() {
     case ${1##*/}:$2 in
         jtape:*) [ "$COMP_CWORD" -gt 1 ] || words='tape positions compact pretty lines' ;;
         jcheck:-*) words='--color --depth --help --lines --version' ;;
-        jpick:-*) words='--all --csv --exists --help --json --longest --quiet --raw --tsv --version --where --where-not' ;;
+        jpick:-*) words='--all --and --csv --depth --document --exists --header --help --json --longest --quiet --raw --tsv --version --where --where-not' ;;
         log_report:-*) words='--and --help --longest --tsv --values --version' ;;
     esac
     [ -z "$words" ] || mapfile -t COMPREPLY < <(compgen -W "$words" -- "$2")

@@ -3,7 +3,8 @@
 # what the table says. The two commands of each task must print the same of a small log. jq is left out where its version is not
 # the table's. Silent where all is well, but for what was left out; else status 1.
 #
-# usage: sh tests/jq.sh [FOLDER]    with log.json and log.jsonl in FOLDER it prints the seconds of each task's commands instead
+# usage: sh tests/jq.sh [FOLDER]    with log.json and log.jsonl in FOLDER it prints the seconds of each task's commands instead,
+#                                    and fails where ours is not five times as fast
 set -u
 top=$(cd "$(dirname "$0")/.." && pwd)
 room=$(mktemp -d) || exit 1
@@ -28,11 +29,13 @@ awk -F ' [|] ' '/^[|] to [|]/ { inside = 1; next } inside && /^$/ { exit } insid
 if [ $# -gt 0 ]; then
     cd "$1" || exit 1
     while IFS='	' read -r ours theirs; do
+        times=
         for command in "$ours" "$theirs"; do
             begin=$(date +%s.%N)
             sh -c "$command" > "$room/out"
-            echo "$begin $(date +%s.%N)" | awk '{ printf "%.2f ", $2 - $1 }'
+            times="$times $begin $(date +%s.%N)"
         done
+        echo "$times" | awk '{ printf "%.2f %.2f ", $2 - $1, $4 - $3; exit (5 * ($2 - $1) > $4 - $3) }' || wrong 'not five times as fast' "$ours"
         printf '%s\n' "$ours"
     done < "$room/tasks"
     exit "$different"

@@ -242,12 +242,33 @@ program=${3:-$(dirname "$0")/../crates/jpick_main/out/jpick_main}
 [ -x "$program" ] || { echo "$program is not there: run make test" >&2; exit 1; }
 given '{"a":"x"}\n \n{"a":2}' /a
 wanted 'fields' 0 '"x"\n2\n' ''
-given '{"a":1}\n[1,]\n{"a":3}\n' -r /a ''
-wanted 'fields, where a line is rejected' 1 '1\t{"a":1}\n3\t{"a":3}\n' '-:2:4: expected a value, found `]`\n'
+given '{"a":1}\n[1,]\n{"a":3}\n' -r /a --and ''
+wanted 'fields, where a line is rejected' 1 '1\t{"a":1}\n3\t{"a":3}\n' '-:2:4: expected a value, found `]` [InternalError]\n'
 given '[1,]\n' -q /a
 wanted 'a rejected line, quietly' 1 '' ''
 given '[12]\n[1]' --longest 3 /0
 wanted 'a line that is too long' 1 '1\n' '-:1: longer than 3 bytes\n'
+given '[[1]]\n[2]' --depth 1 /0
+wanted 'a line that is too deep' 1 '2\n' '-:1:2: one container more than the depth limit [DepthLimitExceeded]\n'
+document='{\n "k": [1,\n 2]}\n'
+hint='jpick: with -d each file is one document\n'
+given "$document" /k
+wanted 'a document in place of lines' 1 '' "-:1:1: the input ends after this, within the document [Syntax]
+${hint}-:2:5: more text after the document [TrailingData]\n-:3:3: more text after the document [TrailingData]\n"
+for option in -d --document; do
+    given "$document" "$option" /k/1
+    wanted "a document by $option" 0 '2\n' ''
+done
+given '{"k":1}\n[' -d /k
+wanted 'more text after a document' 1 '' '-:2:1: more text after the document [TrailingData]\n'
+given ' ' -d /k
+wanted 'a blank document' 1 '' '-:1:2: expected a value, found only whitespace [Eof]\n'
+given '[[1]]' -d --depth 1 /0
+wanted 'a document that is too deep' 1 '' '-:1:2: one container more than the depth limit [DepthLimitExceeded]\n'
+awk 'BEGIN { printf "["; for (i = 0; i < 100000; i++) printf "%d,\n", i; print "0]" }' > "$room/in"
+"$program" -d /99999 "$room/in" - < "$room/in" > "$room/out" 2> "$room/err"
+status=$?
+wanted 'documents of 600 KB' 0 '99999\n99999\n' ''
 filtered='{"k":1}\n{"k":1.0}\n{"k":-0}\n{"k":0}\n{"k":[1]}\n{}\n'
 given "$filtered" --where /k=0 /k
 wanted 'lines where a value is 0' 0 '0\n0\n' ''
@@ -258,18 +279,28 @@ wanted 'lines where a value is not 1' 0 '1.0\n0\n0\n[1]\n' ''
 given "$filtered" --where /k/0=1 ''
 wanted 'lines where an element is 1' 0 '{"k":[1]}\n' ''
 rows='{"k":"x\\ty","l":[1]}\n{"k":"\\""}\n[1,]\n'
-named='-:3:4: expected a value, found `]`\n'
+named='-:3:4: expected a value, found `]` [InternalError]\n'
 for option in -r --raw; do
-    given "$rows" "$option" /k /l
+    given "$rows" "$option" /k --and /l
     wanted "rows by $option" 1 'x\ty\t[1]\n"\t\n' "$named"
 done
-given "$rows" --tsv /k /l
+given "$rows" --tsv /k --and /l
 wanted 'rows by --tsv' 1 'x\\ty\t[1]\n"\t\n' "$named"
-given "$rows" --csv /k /l
+given "$rows" --csv /k --and /l
 wanted 'rows by --csv' 1 '"x\ty","[1]"\n"""",\n' "$named"
-given "$rows" --json /k /l
+given "$rows" -q --header --tsv /k --and '/a"b'
+wanted 'rows by --header --tsv' 1 '/k\t/a"b\nx\\ty\t\n"\t\n' ''
+given "$rows" -q --csv --header /k --and '/a"b'
+wanted 'rows by --header --csv' 1 '"/k","/a""b"\n"x\ty",\n"""",\n' ''
+echo '{}' | "$program" --header --csv /k >&- 2> "$room/err"
+status=$?
+: > "$room/out"
+wanted 'a header for a closed output' 3 '' 'jpick: standard output: writing failed\n'
+given "$rows" --header --json /k
+said 'jpick --header --json' 2 --json
+given "$rows" --json /k --and /l
 wanted 'rows by --json' 1 '["x\\ty",[1]]\n["\\"",null]\n' "$named"
-given "$rows" --all /k /l
+given "$rows" --all /k --and /l
 wanted 'rows by --all' 1 '"x\\ty"\t[1]\n' "$named"
 given "$rows" --quiet /l
 wanted 'rows by --quiet' 1 '[1]\n\n' ''
@@ -283,6 +314,15 @@ for pointer in a '/~' '/a/~2'; do
     given '1' "$pointer"
     wanted "the pointer '$pointer'" 2 '' "jpick: \`$pointer\` is not a JSON Pointer\n"
 done
+given '1' /a --and b
+wanted 'a second query' 2 '' 'jpick: `b` is not a JSON Pointer\n'
+given '1' "$room/a"
+wanted 'a pointer that is the name of a file' 0 '\n' ''
+echo '[1]' > "$room/one"
+at=$(cd "$(dirname "$program")" && pwd)/$(basename "$program")
+(cd "$room" && "$at" one < one > out 2> err; echo $? > status)
+status=$(cat "$room/status")
+wanted 'a file in place of the query' 2 '' 'jpick: `one` is a file; the first word is the query, a JSON Pointer\n'
 for condition in /a /a= /a=x '/a=1 2'; do
     given '1' --where "$condition" /a
     wanted "the condition '$condition'" 2 '' "jpick: \`$condition\` is not a JSON Pointer, \`=\` and JSON\n"
@@ -299,14 +339,13 @@ if [ -w /dev/full ]; then
     status=$?
     wanted 'a full disk, fields' 3 '' 'jpick: standard output: writing failed\n'
 fi
-echo '[1]' > "$room/one"
-"$program" /0 -- "$room/one" "$room/missing" "$room/one" > "$room/out" 2> "$room/err"
+"$program" /0 "$room/one" "$room/missing" "$room/one" > "$room/out" 2> "$room/err"
 status=$?
 sed "s|$room/||; s|: No such.*||" "$room/err" > "$room/short"
 mv "$room/short" "$room/err"
 wanted 'a file that is not there' 3 '1\n1\n' 'jpick: missing\n'
 
-slowly 'a slow pipe, fields' 1 '1\n2\n' 'FILE:2:4: expected a value, found `]`\n' /k --
+slowly 'a slow pipe, fields' 1 '1\n2\n' 'FILE:2:4: expected a value, found `]` [InternalError]\n' /k
 
 # A reader that goes away before all is written: more than a pipe holds.
 awk 'BEGIN { for (i = 0; i < 100000; i++) print "[12345]" }' > "$room/many"
@@ -319,12 +358,12 @@ picked "$room/many"
 wanted 'a closed pipe, fields' 0 '12345\n' ''
 { echo '[1,]'; cat "$room/many"; } > "$room/rejected"
 picked "$room/rejected"
-wanted 'a closed pipe, fields, and a rejected line' 1 '12345\n' '-:1:4: expected a value, found `]`\n'
+wanted 'a closed pipe, fields, and a rejected line' 1 '12345\n' '-:1:4: expected a value, found `]` [InternalError]\n'
 # The files after it are not read.
-{ "$program" /0 -- "$room/many" "$room/missing" 2> "$room/err"; echo $? > "$room/status"; } | head -n 1 > "$room/out"
+{ "$program" /0 "$room/many" "$room/missing" 2> "$room/err"; echo $? > "$room/status"; } | head -n 1 > "$room/out"
 status=$(cat "$room/status")
 wanted 'a closed pipe, fields of more files' 0 '12345\n' ''
-{ "$program" /0 -- "$room/missing" "$room/many" "$room" 2> "$room/err"; echo $? > "$room/status"; } | head -n 1 > "$room/out"
+{ "$program" /0 "$room/missing" "$room/many" "$room" 2> "$room/err"; echo $? > "$room/status"; } | head -n 1 > "$room/out"
 status=$(cat "$room/status")
 sed "s|$room/||; s|: No such.*||" "$room/err" > "$room/short"
 mv "$room/short" "$room/err"

@@ -1,9 +1,8 @@
--- What the answer of a line is.
-use Rattle.std.proofs.Common.{◌≡◌, ◌∙◌, ap, sym, subst, inl, inr, ℕ, ◌≤◌, List, length, false, Some, Result, Ok, Err}
+-- What the answer of a text is.
+use Rattle.std.proofs.Common.{◌≡◌, ◌∙◌, ap, sym, subst, inl, inr, ℕ, List, Option, Some, false, Result, Ok, Err}
+use Rattle.std.proofs.lemmas.Bool.{false≢true}
 use Rattle.std.specs.Result.{result_err}
-use Rattle.simd_json_parts.specs.Pieces.{is_blank}
 use Rattle.simd_json.proofs.Views.Listed.{known}
-use Rattle.simd_json_check.specs.Capacities.{default_max_depth}
 use Rattle.simd_json.specs.Parsed.{HasMemory}
 use Rattle.simd_json.specs.Parsed.{IsParse, IsParsed}
 use Rattle.simd_json_parts.specs.Answer.{answer}
@@ -11,27 +10,27 @@ use Rattle.simd_json_parts.specs.Document.{Document}
 use Rattle.simd_json_parts.specs.Listing.{listing}
 use Rattle.simd_json_parts.specs.Nodes.{Item}
 use Rattle.simd_json_parts.specs.declared.error.Error.{Error}
-use Rattle.jpick.specs.Picked.{Picked, next, with_answer, with_line, with_rejection}
+use Rattle.jpick.specs.Picked.{Picked, with_answer, with_rejection}
+use Rattle.jpick.specs.Runs.{is_short}
 use Rattle.jpick.specs.declared.fields.Wanted.{Wanted}
-use Rattle.jpick.proofs.Shown.{short-line}
 
-pub answered : (b : List ℕ) (limit : ℕ) (nodes : List Item) (d : Document) → IsParsed b limit nodes → limit ≡ default_max_depth
-    → listing d ≡ nodes → answer b default_max_depth ≡ Ok d
-answered b limit nodes d p is same =
+pub answered : (b : List ℕ) (limit depth : ℕ) (nodes : List Item) (d : Document) → IsParsed b limit nodes → limit ≡ depth
+    → listing d ≡ nodes → answer b depth ≡ Ok d
+answered b limit depth nodes d p is same =
     ap (answer b) (sym is) ∙ p.answered ∙ ap Ok (sym (known d p.document (same ∙ p.listed)))
 
-pub answered-error : (b : List ℕ) (limit capacity : ℕ) (e : Error) (nodes : List Item) (listed : List ℕ)
-    → IsParse b limit capacity (Some e) nodes listed → HasMemory (Some e) → limit ≡ default_max_depth → answer b default_max_depth ≡ Err e
-answered-error b limit capacity e nodes listed p has is =
+pub answered-error : (b : List ℕ) (limit depth capacity : ℕ) (e : Error) (nodes : List Item) (listed : List ℕ)
+    → IsParse b limit capacity (Some e) nodes listed → HasMemory (Some e) → limit ≡ depth → answer b depth ≡ Err e
+answered-error b limit depth capacity e nodes listed p has is =
     ap (answer b) (sym is) ∙ elim p.rejected [ inl rejected ↦ rejected.answered | inr lacks ↦ absurd (has (ap Some lacks.0.0)) ]
 
--- of a line that is rejected
-pub rejected-line : (w : Wanted) (file : List ℕ) (r : Picked) (line : List ℕ) (limit capacity : ℕ) (answer : Result Unit Error) (e : Error)
-    (nodes : List Item) (listed : List ℕ) → answer ≡ Err e → IsParse line limit capacity (result_err answer) nodes listed
-    → HasMemory (result_err answer) → limit ≡ default_max_depth → length line ≤ w.longest → is_blank line ≡ false
-    → with_rejection w file (next r) line (Some e) ≡ with_line w file r line
-rejected-line w file r line limit capacity answer e nodes listed is parse has limited fits some =
-    ap (with_answer w file (next r) line) (sym (answered-error line limit capacity e nodes listed
-    (subst (λ a. IsParse line limit capacity (result_err a) nodes listed) is parse)
-    (subst (λ a. HasMemory (result_err a)) is has) limited))
-    ∙ short-line w file r line false fits some
+pub has-memory : (x : Option Error) → is_short x ≡ false → HasMemory x
+has-memory x none is = false≢true (sym none ∙ ap is_short is)
+
+-- of a text that is rejected
+pub rejected-text : (w : Wanted) (file : List ℕ) (r : Picked) (text : List ℕ) (limit capacity : ℕ) (a : Result Unit Error) (e : Error)
+    (nodes : List Item) (listed : List ℕ) → a ≡ Err e → IsParse text limit capacity (result_err a) nodes listed
+    → HasMemory (Some e) → limit ≡ w.depth → with_rejection w file r text (Some e) ≡ with_answer w file r text (answer text w.depth)
+rejected-text w file r text limit capacity a e nodes listed is parse has limited =
+    ap (with_answer w file r text) (sym (answered-error text limit w.depth capacity e nodes listed
+    (subst (λ a. IsParse text limit capacity (result_err a) nodes listed) is parse) has limited))

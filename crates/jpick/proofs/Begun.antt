@@ -3,7 +3,6 @@ use Rattle.std.proofs.Common.{◌≡◌, ◌∙◌, ap, refl, sym, List, ℕ, []
 use Rattle.std.proofs.Common.{Bool, true, false, cond, nat_lt, Option, None, Some}
 use Rattle.std.specs.Prelude.{Result, Ok, Err}
 use Rattle.simd_json_parts.specs.Pieces.{is_blank}
-use Rattle.simd_json_check.specs.Capacities.{default_max_depth}
 use Rattle.simd_json_parts.specs.Answer.{answer}
 use Rattle.simd_json_parts.specs.Document.{Document}
 use Rattle.simd_json_parts.specs.declared.error.Error.{Error}
@@ -52,9 +51,9 @@ grows-answer w file r line (Err e) = grows-rejected w file r line (Some e)
 grows-line : (w : Wanted) (file : List ℕ) (r : Picked) (line : List ℕ) → Grows r (with_line w file r line)
 grows-line w file r line =
     let n = next r in
-    let answered = with_answer w file n line (answer line default_max_depth) in
+    let answered = with_answer w file n line (answer line w.depth) in
     let taken : Grows n (cond (is_blank line) n answered) =
-    grows-if (is_blank line) n n answered (grows-none n n refl refl) (grows-answer w file n line (answer line default_max_depth)) in
+    grows-if (is_blank line) n n answered (grows-none n n refl refl) (grows-answer w file n line (answer line w.depth)) in
     let long : Grows n (with_rejection w file n line None) = grows-rejected w file n line None in
     grows-then r n _ (grows-none r n refl refl)
     (grows-if (nat_lt w.longest (length line)) n (with_rejection w file n line None) _ long taken)
@@ -66,3 +65,8 @@ rejections-grow w file r line = let g = grows-line w file r line in (g.more, g.a
 pub rows-grow : (w : Wanted) (file : List ℕ) (r : Picked) (line : List ℕ)
     → (more : List ℕ) × (r.rows ++ more ≡ (with_line w file r line).rows)
 rows-grow w file r line = let g = grows-line w file r line in (g.more_rows, g.all_rows)
+
+-- so they are of a text
+pub answer-grows : (w : Wanted) (file : List ℕ) (r : Picked) (text : List ℕ)
+    → (more : List ℕ) × (r.rejections ++ more ≡ (with_answer w file r text (answer text w.depth)).rejections)
+answer-grows w file r text = let g = grows-answer w file r text (answer text w.depth) in (g.more, g.all)

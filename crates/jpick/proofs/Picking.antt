@@ -1,5 +1,5 @@
 -- What was picked of the lines of an input so far, and written.
-use Rattle.std.proofs.Common.{◌≡◌, ◌∙◌, ap, refl, sym, subst, inl, inr, ℕ, List, [], ◌∷◌, ◌++◌, true, Option, Ok}
+use Rattle.std.proofs.Common.{◌≡◌, ◌∙◌, ap, refl, sym, subst, inl, inr, ℕ, List, [], ◌∷◌, ◌++◌, true, false, Option, Ok}
 use Rattle.std.proofs.KnownBytes.{Appends-nil, Appends-trans}
 use Rattle.std.specs.Io.KnownBytes.{Appends, Consumes, IsAtEnd}
 use Rattle.jsonl.specs.Failures.{Begins}
@@ -9,7 +9,7 @@ use Rattle.jsonl.specs.declared.lines.Step.TheVariants.{Line, Block, End}
 use Rattle.jsonl.proofs.Folds.{begins-all, begins-lines, begins-more, begins-then, folded-last}
 use Rattle.jsonl.proofs.Reading
 use Rattle.jsonl.proofs.Reading.{HasFirst, at-block, at-end, at-line, first-but-last, first-more, first-now}
-use Rattle.jpick.specs.Picked.{Picked, no_line, picked_of, with_line}
+use Rattle.jpick.specs.Picked.{Picked, no_line, picked_lines, with_line}
 use Rattle.jpick.specs.Runs.{HasBegun, HasPicked, IsStart, IsTaken, Shows, Writes}
 use Rattle.jpick.specs.declared.fields.Wanted.{Wanted}
 use Rattle.jpick.specs.declared.lines.Picker.{Picker}
@@ -35,7 +35,7 @@ pub record IsDone {A : Type 0} (w : Wanted) (file : List ℕ) (picker : Picker A
   pub rows : List ℕ
   pub read : Consumes first left input
   pub end : IsAtEnd left
-  pub shown : Shows picker rows named names w file (picked_of w file input)
+  pub shown : Shows picker rows named names w file (picked_lines w file input)
   pub written : Appends held holds rows
 
 -- with a line of which the first bytes are kept
@@ -48,7 +48,7 @@ with-last w file done line last is =
 -- of lines that are the first of an input
 begun-first : (w : Wanted) (file : List ℕ) {first left : Option (List ℕ)} (held holds named names : Option (List ℕ)) (done : List (List ℕ))
     → HasFirst first left done → Begins held holds (picked w file done).rows → Begins named names (picked w file done).rejections
-    → HasBegun w file first left held holds named names
+    → HasBegun (picked_lines w file) first left held holds named names
 begun-first w file held holds named names done h rows rejections = record {
   input = h.input;
   read = h.read;
@@ -71,7 +71,7 @@ module _ {A : Type 0} (w : Wanted) (file : List ℕ) (picker : Picker A) {c : Cu
 
   pub reading-begun : {after : Option (List ℕ)} → IsAt w file picker c line first left held holds named names
       → ((more : List ℕ) × Consumes left after more)
-      → HasBegun w file first after held holds named names
+      → HasBegun (picked_lines w file) first after held holds named names
   reading-begun at more =
       begun-first w file held holds named names at.done (first-more at.read more) (rows-begun at)
       (begins-all named names _ at.shown.rejections)
@@ -94,7 +94,7 @@ module _ {A : Type 0} (w : Wanted) (file : List ℕ) (picker : Picker A) {c : Cu
 
   pub line-begun : (d : Cut) {lines : List ℕ} {after now : Option (List ℕ)}
       → (at : IsAt w file picker c line first left held holds named names) → Moves c d line lines left after Line
-      → Begins named now (with_line w file (picked w file at.done) lines).rejections → HasBegun w file first after held holds named now
+      → Begins named now (with_line w file (picked w file at.done) lines).rejections → HasBegun (picked_lines w file) first after held holds named now
   line-begun d {lines} {after} {now} at moves begun =
       let next = at-line at.read moves in
       let done = at.done ++ next.0 ∷ [] in
@@ -104,11 +104,11 @@ module _ {A : Type 0} (w : Wanted) (file : List ℕ) (picker : Picker A) {c : Cu
 
   -- ---- all that was read
 
-  pub block-stopped : (d : Cut) {lines : List ℕ} {after now : Option (List ℕ)}
+  pub block-stopped : w.is_document ≡ false → (d : Cut) {lines : List ℕ} {after now : Option (List ℕ)}
       → (at : IsAt w file picker c line first left held holds named names) → Moves c d line lines left after Block
       → Begins holds now picker.rows.items
-      → (begun : HasBegun w file first after held now named names) × IsTaken w file begun.input after picker.all_taken
-  block-stopped d {lines} {after} {now} at moves begun =
+      → (begun : HasBegun (picked_lines w file) first after held now named names) × IsTaken w file (picked_lines w file) begun.input after picker.all_taken
+  block-stopped lined d {lines} {after} {now} at moves begun =
       let block = at-block at.read moves in
       let h = first-but-last block.0 block.1 in
       let rows = subst (Begins held now) at.shown.rows (begins-then held holds now at.rows picker.rows.items at.written begun) in (
@@ -120,7 +120,7 @@ module _ {A : Type 0} (w : Wanted) (file : List ℕ) (picker : Picker A) {c : Cu
               begins-lines (with_line w file) (λ r. r.rejections) (rejections-grow w file) named names no_line at.done h.0.rest _ h.0.all
               (begins-all named names _ at.shown.rejections);
         },
-        inl (at.done, h.1, h.2, at.shown.all_taken),
+        inl (lined, at.done, h.1, h.2, at.shown.all_taken),
       )
 
   -- ---- the end
@@ -143,7 +143,7 @@ module _ {A : Type 0} (w : Wanted) (file : List ℕ) (picker : Picker A) {c : Cu
 
   pub end-begun : (d : Cut) {lines : List ℕ} {after now : Option (List ℕ)}
       → (at : IsAt w file picker c line first left held holds named names) → Moves c d line lines left after End
-      → Begins named now (with_line w file (picked w file at.done) lines).rejections → HasBegun w file first after held holds named now
+      → Begins named now (with_line w file (picked w file at.done) lines).rejections → HasBegun (picked_lines w file) first after held holds named now
   end-begun d {lines} {after} {now} at moves begun =
       let end = at-end d at.read moves in
       let more = end.last ∷ [] in
@@ -158,7 +158,7 @@ module _ {A : Type 0} (w : Wanted) (file : List ℕ) (picker : Picker A) {c : Cu
 
 pub done-stopped : {A : Type 0} (w : Wanted) (file : List ℕ) (picker : Picker A) {first left held holds named names now : Option (List ℕ)}
     → IsDone w file picker first left held holds named names → Begins holds now picker.rows.items
-    → (begun : HasBegun w file first left held now named names) × IsTaken w file begun.input left picker.all_taken
+    → (begun : HasBegun (picked_lines w file) first left held now named names) × IsTaken w file (picked_lines w file) begun.input left picker.all_taken
 done-stopped w file picker {first} {left} {held} {holds} {named} {names} {now} at begun = (
   record {
     input = at.input;
@@ -186,7 +186,7 @@ module _ {A W : Type 0} (w : Wanted) (file : List ℕ) (picker new : Picker A) {
   }
 
   pub done-written : IsDone w file picker first left held (contents out.inner) named names → Writes contents picker new out outs
-      → HasPicked w file first left held (contents outs.inner) named names (Ok new.all_taken)
+      → HasPicked (picked_lines w file) first left held (contents outs.inner) named names (Ok new.all_taken)
   done-written at writes = record {
     input = at.input;
     read = at.read;

@@ -5,26 +5,24 @@ use Rattle.std.specs.Io.KnownBytes.{Appends}
 use Rattle.std.proofs.lemmas.Bool.{lt-ltb, le-ltb}
 use Rattle.simd_json_parts.specs.Pieces.{is_blank}
 use Rattle.jsonl.specs.Ports.{Watched}
-use Rattle.simd_json.specs.Capacities.{Capacities}
-use Rattle.simd_json_check.specs.Capacities.{default_max_depth}
-use Rattle.simd_json.specs.Reserved.{IsReserved}
 use Rattle.simd_json.specs.Tapes.{Listed}
 use Rattle.simd_json_parts.specs.Answer.{answer}
 use Rattle.simd_json_parts.specs.Document.{Document}
 use Rattle.simd_json_parts.specs.declared.error.Error.{Error}
 use Rattle.simd_json_print.proofs.Texts.{appends-then}
-use Rattle.jpick.specs.Picked.{Picked, next, one_more, rejection_line, row_of, with_answer, with_line, with_rejection, with_value}
+use Rattle.jsonl.specs.Rejections.{one_more}
+use Rattle.jpick.specs.Picked.{Picked, next, rejection_line, row_of, with_answer, with_line, with_rejection, with_value}
 use Rattle.jpick.specs.Runs.{IsRejection, PicksValue, Shows, Writes}
 use Rattle.jpick.specs.declared.fields.Wanted.{Wanted}
 use Rattle.jpick.specs.declared.lines.Picker.{Picker}
-use Rattle.jpick.proofs.Begun.{rejections-grow}
-use Rattle.jsonl.proofs.Folds.{begins-all, begins-grown, begins-then}
+use Rattle.jpick.proofs.Begun.{answer-grows, rejections-grow}
+use Rattle.jsonl.proofs.Folds.{begins-all, begins-grown, begins-more, begins-then}
 use Rattle.jsonl.proofs.Kept.{kept-is}
 use Rattle.jsonl.specs.Failures.{Begins}
 use Rattle.jsonl.specs.Lines.{kept}
 
 abbrev rest_of : Wanted → List ℕ → Picked → List ℕ → Bool → Picked
-rest_of w file r line blank = cond blank (next r) (with_answer w file (next r) line (answer line default_max_depth))
+rest_of w file r line blank = cond blank (next r) (with_answer w file (next r) line (answer line w.depth))
 
 pub long-line : (w : Wanted) (file : List ℕ) (r : Picked) (line : List ℕ) → w.longest < length line
     → with_rejection w file (next r) line None ≡ with_line w file r line
@@ -39,18 +37,29 @@ short-line w file r line blank fits is =
     (le-ltb w.longest (length line) fits)
     ∙ ap (rest_of w file r line) is)
 
--- the next line, as it was before its parse
-pub shows-next : {A : Type 0} (old new : Picker A) (number : ℕ) (before : List ℕ) (held holds : Option (List ℕ)) (w : Wanted)
-    (file : List ℕ) (r : Picked) → number ≡ one_more old.number
-    → new ≡ record old { number = number; original = new.original; tape = new.tape; buffers = new.buffers }
-    → new.buffers.limit ≡ old.buffers.limit → IsReserved old.wanted.now.longest new.buffers new.tape
-    → Shows old before held holds w file r → Shows new before held holds w file (next r)
-shows-next old new number before held holds w file r is same limit reserved shown = record {
+-- the next text
+pub shows-next : {A : Type 0} (old : Picker A) (number : ℕ) (before : List ℕ) (held holds : Option (List ℕ)) (w : Wanted)
+    (file : List ℕ) (r : Picked) → number ≡ one_more old.number → Shows old before held holds w file r
+    → Shows (record old { number = number }) before held holds w file (next r)
+shows-next old number before held holds w file r is shown = record {
+  by = shown.by;
+  of = shown.of;
+  limited = shown.limited;
+  number = is ∙ ap one_more shown.number;
+  all_taken = shown.all_taken;
+  rows = shown.rows;
+  rejections = shown.rejections;
+}
+
+-- which is kept as it was before its parse
+pub shows-parsed : {A : Type 0} (old new : Picker A) (before : List ℕ) (held holds : Option (List ℕ)) (w : Wanted)
+    (file : List ℕ) (r : Picked) → new ≡ record old { original = new.original; tape = new.tape; buffers = new.buffers }
+    → new.buffers.limit ≡ old.buffers.limit → Shows old before held holds w file r → Shows new before held holds w file r
+shows-parsed old new before held holds w file r same limit shown = record {
   by = ap (λ p. p.wanted.now) same ∙ shown.by;
   of = ap (λ p. p.file.now) same ∙ shown.of;
   limited = limit ∙ shown.limited;
-  reserved = subst (λ p. IsReserved p.longest new.buffers new.tape) (sym (ap (λ p. p.wanted.now) same)) reserved;
-  number = ap (λ p. p.number) same ∙ is ∙ ap one_more shown.number;
+  number = ap (λ p. p.number) same ∙ shown.number;
   all_taken = ap (λ p. p.all_taken) same ∙ shown.all_taken;
   rows = ap (λ p. before ++ p.rows.items) same ∙ shown.rows;
   rejections = shown.rejections;
@@ -63,7 +72,6 @@ shows-picked old new before held holds w file r d shown h = record {
   by = ap (λ p. p.wanted.now) h.same ∙ shown.by;
   of = ap (λ p. p.file.now) h.same ∙ shown.of;
   limited = ap (λ p. p.buffers.limit) h.same ∙ shown.limited;
-  reserved = subst (λ p. IsReserved p.wanted.now.longest p.buffers p.tape) (sym h.same) shown.reserved;
   number = ap (λ p. p.number) h.same ∙ shown.number;
   all_taken = ap (λ p. p.all_taken) h.same ∙ shown.all_taken;
   rows = ap (λ us. before ++ us) h.rows ∙ sym (append_assoc before old.rows.items (row_of old.wanted.now d))
@@ -94,7 +102,6 @@ shows-rejected naming old new rejections rejects before held w file r line error
   by = ap (λ p. p.wanted.now) h.same ∙ shown.by;
   of = ap (λ p. p.file.now) h.same ∙ shown.of;
   limited = ap (λ p. p.buffers.limit) h.same ∙ shown.limited;
-  reserved = subst (λ p. IsReserved p.wanted.now.longest p.buffers p.tape) (sym h.same) shown.reserved;
   number = ap (λ p. p.number) h.same ∙ shown.number;
   all_taken = ap (λ p. p.all_taken) h.same;
   rows = ap (λ p. before ++ p.rows.items) h.same ∙ shown.rows;
@@ -110,9 +117,6 @@ pub rejected-over : {A E : Type 0} (naming : E → Option (List ℕ)) (old new :
 rejected-over {A} naming old new tape rejections rejects error h = record
     { same = ap {A = Picker A} (λ (p : Picker A). record p { tape = tape }) h.same; named = h.named }
 
-pub reserved-as : (len : ℕ) (b c : Capacities) (t u : Listed) → c ≡ b → u ≡ t → IsReserved len b t → IsReserved len c u
-reserved-as len b c t u is same reserved = subst (λ x. IsReserved len x u) (sym is) (subst (IsReserved len b) (sym same) reserved)
-
 -- the rows are written
 pub shows-written : {A W : Type 0} (written : W → Option (List ℕ)) (old new : Picker A) (out outs : Watched W) (before : List ℕ)
     (held holds : Option (List ℕ)) (w : Wanted) (file : List ℕ) (r : Picked) → Shows old before held holds w file r
@@ -121,7 +125,6 @@ shows-written written old new out outs before held holds w file r shown h = reco
   by = ap (λ p. p.wanted.now) h.same ∙ shown.by;
   of = ap (λ p. p.file.now) h.same ∙ shown.of;
   limited = ap (λ p. p.buffers.limit) h.same ∙ shown.limited;
-  reserved = subst (λ p. IsReserved p.wanted.now.longest p.buffers p.tape) (sym h.same) shown.reserved;
   number = ap (λ p. p.number) h.same ∙ shown.number;
   all_taken = ap (λ p. p.all_taken) h.same ∙ shown.all_taken;
   rows = ap (λ us. r.rows ++ us) h.none ∙ append-nil r.rows;
@@ -146,6 +149,14 @@ pub begins-line : {A : Type 0} (picker : Picker A) (before : List ℕ) (held hol
 begins-line picker before held holds w file r line shown =
     begins-grown (with_line w file) (λ r. r.rejections) (rejections-grow w file) held holds r line
     (begins-all held holds r.rejections shown.rejections)
+
+-- of any text, before its name
+pub begins-text : {A : Type 0} (picker : Picker A) (before : List ℕ) (held holds : Option (List ℕ)) (w : Wanted) (file : List ℕ)
+    (r : Picked) (text : List ℕ) → Shows picker before held holds w file r
+    → Begins held holds (with_answer w file r text (answer text w.depth)).rejections
+begins-text picker before held holds w file r text shown =
+    let grown = answer-grows w file r text in
+    subst (Begins held holds) grown.1 (begins-more held holds r.rejections grown.0 (begins-all held holds r.rejections shown.rejections))
 
 -- of a line that is too long the first bytes are enough
 pub cut-line : (w : Wanted) (file : List ℕ) (r : Picked) (line : List ℕ)

@@ -1,5 +1,5 @@
 -- What the words of a command line ask for, by what was found in them.
-use Rattle.std.specs.Prelude.{◌≡◌, ℕ, List, [], ◌∷◌, codes, map, Bool, true, false, bytes_eq}
+use Rattle.std.specs.Prelude.{◌≡◌, ℕ, List, [], ◌∷◌, ◌++◌, codes, map, Bool, true, false, bytes_eq}
 use Rattle.std.specs.Option.{option_map_or}
 use Rattle.clap.specs.Matches.{first_value, matched_of, raw_values}
 use Rattle.clap.specs.declared.parser.matches.Found.{Found}
@@ -25,6 +25,8 @@ flags_of f = record {
   is_raw = is_given f (codes "raw");
   needs_all = is_given f (codes "all");
   is_quiet = is_given f (codes "quiet");
+  has_header = is_given f (codes "header");
+  is_document = is_given f (codes "document");
 }
 
 -- the values of an argument, in order
@@ -40,6 +42,6 @@ abbrev pub files_of : Found → List (List ℕ)
 files_of f = or_input (texts_of f (codes "file"))
 
 pub record HasOptions (f : Found) (o : Options) : Type 0 where
-  pub pointers : map (λ pointer. pointer.now) o.pointers.items ≡ texts_of f (codes "pointer")
+  pub pointers : map (λ pointer. pointer.now) o.pointers.items ≡ texts_of f (codes "query") ++ texts_of f (codes "and")
   pub flags : o.flags ≡ flags_of f
   pub files : map (λ name. name.now) o.files.items ≡ files_of f

@@ -1,39 +1,45 @@
 -- What is picked of a stream of lines, and how each rejected line is named.
-use Rattle.std.specs.Prelude.{ℕ, ◌+◌, ◌-◌, ◌^◌, min, List, [], ◌∷◌, ◌++◌, codes, length, nat_lt, Bool, true, false, Option, None, Some}
-use Rattle.std.specs.Prelude.{Result, Ok, Err, if◌then◌else◌}
-use Rattle.std.specs.Fmt.{decimal}
+use Rattle.std.specs.Prelude.{ℕ, List, [], ◌∷◌, ◌++◌, codes, length, nat_lt, Bool, true, false, not, ◌&&◌, ◌==◌}
+use Rattle.std.specs.Prelude.{Option, None, Some, is_some, Result, Ok, Err, if◌then◌else◌}
 use Rattle.simd_json_parts.specs.Pieces.{pieces, is_blank}
-use Rattle.simd_json_check.specs.Capacities.{default_max_depth}
-use Rattle.simd_json_check.specs.Messages.{reason_text}
-use Rattle.simd_json_check.specs.Reasons.{location_of}
-use Rattle.simd_json_check.specs.declared.location.Location.{Location}
 use Rattle.simd_json_parts.specs.Answer.{answer}
 use Rattle.simd_json_parts.specs.Bytes.{line_feed}
 use Rattle.simd_json_parts.specs.Document.{Document}
 use Rattle.simd_json_parts.specs.declared.error.Error.{Error}
+use Rattle.simd_json_parts.specs.declared.error.ErrorType.{ErrorType}
+use Rattle.simd_json_parts.specs.declared.error.ErrorType.TheVariants.{Syntax}
 use Rattle.jsonl.specs.Lines.{folded}
+use Rattle.jsonl.specs.Rejections.{one_more, rejection_words}
 use Rattle.jpick.specs.Rows.{is_picked, row}
 use Rattle.jpick.specs.declared.fields.Wanted.{Wanted}
 
--- one more, as far as 64 bits hold it
-abbrev pub one_more : ℕ → ℕ
-one_more n = min (n + 1) (2 ^ 64 - 1)
+-- ---- how a rejected line is named
 
--- in which column the line is wrong and why, or that it has more than `longest` bytes
-abbrev pub reason_words : Location → List ℕ
-reason_words l = codes ":" ++ decimal l.column ++ codes ": " ++ reason_text l.reason
+-- with a character, the kind of an input that ends within a document
+abbrev pub is_syntax : ErrorType → Bool
+is_syntax Syntax = true
+is_syntax _ = false
 
-abbrev pub rejection_words : ℕ → List ℕ → Option Error → List ℕ
-rejection_words longest line (Some e) = reason_words (location_of line e)
-rejection_words longest line None = codes ": longer than " ++ decimal longest ++ codes " bytes"
+abbrev pub ends_early : Option Error → Bool
+ends_early None = false
+ends_early (Some e) = is_syntax e.error && is_some e.character
 
--- after the name of the file: the number of the line, from 1, and these words
-abbrev pub place_text : ℕ → ℕ → List ℕ → Option Error → List ℕ
-place_text longest number line error = codes ":" ++ decimal number ++ rejection_words longest line error ++ line_feed ∷ []
+-- where the first line ends within a document, the file may be one
+abbrev pub is_hinted : Wanted → ℕ → Option Error → Bool
+is_hinted w number error = not w.is_document && (number == 1) && ends_early error
 
--- FILE:LINE:COLUMN: REASON, or nothing where it is quiet
+abbrev pub hint : Bool → List ℕ
+hint true = codes "jpick: with -d each file is one document" ++ line_feed ∷ []
+hint false = []
+
+-- FILE:LINE:COLUMN: REASON [KIND], or nothing where it is quiet
+abbrev pub naming_words : Wanted → ℕ → List ℕ → Option Error → List ℕ
+naming_words w number line error = rejection_words w.longest number line error ++ hint (is_hinted w number error)
+
 abbrev pub rejection_line : Wanted → List ℕ → ℕ → List ℕ → Option Error → List ℕ
-rejection_line w file number line error = if w.is_quiet then [] else file ++ place_text w.longest number line error
+rejection_line w file number line error = if w.is_quiet then [] else file ++ naming_words w number line error
+
+-- ---- what is picked
 
 -- how many lines there are so far, whether none of them was rejected, the rows, and the lines that name rejected ones
 pub record Picked : Type 0 where
@@ -53,7 +59,7 @@ with_rejection w file r line error =
     record r { all_taken = false; rejections = r.rejections ++ rejection_line w file r.number line error }
 
 abbrev pub row_of : Wanted → Document → List ℕ
-row_of w d = if is_picked w d then row w d else []
+row_of w d = if is_picked w d then row w (Some d) else []
 
 abbrev pub with_value : Wanted → Picked → Document → Picked
 with_value w r d = record r { rows = r.rows ++ row_of w d }
@@ -67,8 +73,15 @@ abbrev pub with_line : Wanted → List ℕ → Picked → List ℕ → Picked
 with_line w file r line =
     if nat_lt w.longest (length line) then with_rejection w file (next r) line None
     else if is_blank line then next r
-    else with_answer w file (next r) line (answer line default_max_depth)
+    else with_answer w file (next r) line (answer line w.depth)
 
 -- of the lines of an input: of the pieces between its line feeds
+abbrev pub picked_lines : Wanted → List ℕ → List ℕ → Picked
+picked_lines w file input = folded (with_line w file) no_line (pieces input)
+
+-- of an input that is one document
+abbrev pub picked_document : Wanted → List ℕ → List ℕ → Picked
+picked_document w file input = with_answer w file (next no_line) input (answer input w.depth)
+
 abbrev pub picked_of : Wanted → List ℕ → List ℕ → Picked
-picked_of w file input = folded (with_line w file) no_line (pieces input)
+picked_of w file = if w.is_document then picked_document w file else picked_lines w file

@@ -5,7 +5,8 @@ use Rattle.std.specs.Borrow.{Bor}
 use Rattle.std.specs.List.{list_all}
 use Rattle.std.specs.Result.{result_ok}
 use Rattle.simd_json.specs.Viewed.{doc}
-use Rattle.simd_json_parts.specs.Bytes.{backslash, carriage_return, comma, left_bracket, line_feed, quote, right_bracket, tab}
+use Rattle.jsonl.specs.Cells.{cells, raw_text, tsv_escape}
+use Rattle.simd_json_parts.specs.Bytes.{comma, left_bracket, line_feed, quote, right_bracket, tab}
 use Rattle.simd_json_parts.specs.Document.{Document, string, array, object}
 use Rattle.simd_json_parts.specs.Equality.{equal}
 use Rattle.simd_json_parts.specs.Pointed.{pointed}
@@ -28,33 +29,23 @@ abbrev pub is_value : Document → Option Document → Bool
 is_value other None = false
 is_value other (Some d) = equal d other
 
-abbrev pub holds : Document → Filter → Bool
-holds d (Is pointer other) = is_value (doc other) (at pointer.now d)
-holds d (IsNot pointer other) = not (is_value (doc other) (at pointer.now d))
-holds d (Exists pointer) = is_some (at pointer.now d)
+abbrev pub meets : Document → Filter → Bool
+meets d (Is pointer other) = is_value (doc other) (at pointer.now d)
+meets d (IsNot pointer other) = not (is_value (doc other) (at pointer.now d))
+meets d (Exists pointer) = is_some (at pointer.now d)
 
 abbrev pub has_value : Document → Bor (List ℕ) → Bool
 has_value d pointer = is_some (at pointer.now d)
 
 -- the line is printed: each filter holds, and each pointer has a value if all are needed
 abbrev pub is_picked : Wanted → Document → Bool
-is_picked w d = list_all (holds d) w.filters.now && (not w.needs_all || list_all (has_value d) w.pointers.now)
+is_picked w d = list_all (meets d) w.filters.now && (not w.needs_all || list_all (has_value d) w.pointers.now)
 
 -- ---- a value in a row
 
--- a string as its text, every other value as compact JSON
-abbrev pub raw_text : Document → List ℕ
-raw_text (string t) = t
-raw_text d = compact d
-
 -- what stands for a byte in tab separated or comma separated text, if not the byte itself
 abbrev pub escape_of : Layout → ℕ → Option (List ℕ)
-escape_of Tsv x =
-    if x == tab then Some (codes "\\t")
-    else if x == line_feed then Some (codes "\\n")
-    else if x == carriage_return then Some (codes "\\r")
-    else if x == backslash then Some (codes "\\\\")
-    else None
+escape_of Tsv x = tsv_escape x
 escape_of Csv x = if x == quote then Some (codes "\"\"") else None
 escape_of _ x = None
 
@@ -74,9 +65,9 @@ field_text layout d =
     if is_some (as_null d) then [] else quote_of layout d ++ flat_map (escaped layout) (raw_text d) ++ quote_of layout d
 
 -- of a pointer that has no value
-abbrev pub missing_text : Layout → List ℕ
-missing_text Json = codes "null"
-missing_text _ = []
+abbrev pub no_value_text : Layout → List ℕ
+no_value_text Json = codes "null"
+no_value_text _ = []
 
 abbrev pub value_text : Layout → Bool → Document → List ℕ
 value_text Tabs true d = raw_text d
@@ -84,9 +75,9 @@ value_text Tabs false d = compact d
 value_text Json raw d = compact d
 value_text layout raw d = field_text layout d
 
-abbrev pub cell : Wanted → Option Document → List ℕ
-cell w None = missing_text w.layout
-cell w (Some d) = value_text w.layout w.is_raw d
+abbrev pub value_cell : Wanted → Option Document → List ℕ
+value_cell w None = no_value_text w.layout
+value_cell w (Some d) = value_text w.layout w.is_raw d
 
 -- ---- the row
 
@@ -94,23 +85,21 @@ abbrev pub opening : Layout → List ℕ
 opening Json = left_bracket ∷ []
 opening _ = []
 
-abbrev pub separator : Layout → List ℕ
-separator Csv = comma ∷ []
-separator Json = comma ∷ []
-separator _ = tab ∷ []
+-- between two values
+abbrev pub mark_of : Layout → List ℕ
+mark_of Csv = comma ∷ []
+mark_of Json = comma ∷ []
+mark_of _ = tab ∷ []
 
 abbrev pub closing : Layout → List ℕ
 closing Json = right_bracket ∷ line_feed ∷ []
 closing _ = line_feed ∷ []
 
--- after the mark
-abbrev pub other_cell : Wanted → Document → Bor (List ℕ) → List ℕ
-other_cell w d pointer = separator w.layout ++ cell w (at pointer.now d)
+-- of a pointer: the value, or in the header the pointer itself, as a string
+abbrev pub cell_at : Wanted → Option Document → Bor (List ℕ) → List ℕ
+cell_at w None pointer = field_text w.layout (string pointer.now)
+cell_at w (Some d) pointer = value_cell w (at pointer.now d)
 
--- the first value, and each other one after the mark
-abbrev pub cells : Wanted → Document → List (Bor (List ℕ)) → List ℕ
-cells w d [] = []
-cells w d (first ∷ others) = cell w (at first.now d) ++ flat_map (other_cell w d) others
-
-abbrev pub row : Wanted → Document → List ℕ
-row w d = opening w.layout ++ cells w d w.pointers.now ++ closing w.layout
+-- the row of a document, or the header
+abbrev pub row : Wanted → Option Document → List ℕ
+row w d = opening w.layout ++ cells (mark_of w.layout) (cell_at w d) w.pointers.now ++ closing w.layout

@@ -1,65 +1,83 @@
 -- What a run leaves.
 use Rattle.std.specs.Prelude.{◌≡◌, ◌↔◌, ◌⊎◌, ◌++◌, ℕ, List, [], ◌∷◌, Bool, true, false, Option}
-use Rattle.std.specs.Prelude.{OnOk, IfErr, IsErrAnd, Result, Ok, Err, MatchResult}
+use Rattle.std.specs.Prelude.{None, Some, OnOk, IfErr, IsErrAnd, Result, Ok, Err, MatchResult}
 use Rattle.std.specs.Io.KnownBytes.{Appends, Consumes, IsAtEnd}
 use Rattle.jsonl.specs.Failures.{Begins, SaysClosed, is_write, output_fault}
 use Rattle.jsonl.specs.Lines.{folded}
 use Rattle.jsonl.specs.Ports.{Watched}
 use Rattle.jsonl.specs.declared.failure.Failure.{Failure}
-use Rattle.jsonl.specs.declared.failure.Failure.TheVariants.{Read, Name, Closed}
-use Rattle.simd_json_check.specs.Capacities.{default_max_depth}
-use Rattle.simd_json.specs.Reserved.{IsReserved}
+use Rattle.jsonl.specs.declared.failure.Failure.TheVariants.{Read, Name, Closed, Resources}
 use Rattle.simd_json_parts.specs.Pieces.{pieces}
+use Rattle.simd_json_parts.specs.Answer.{answer}
 use Rattle.simd_json_parts.specs.Document.{Document}
 use Rattle.simd_json_parts.specs.declared.error.Error.{Error}
-use Rattle.jpick.specs.Picked.{Picked, no_line, picked_of, rejection_line, row_of, with_line}
+use Rattle.simd_json_parts.specs.declared.error.ErrorType.{ErrorType}
+use Rattle.simd_json_parts.specs.declared.error.ErrorType.TheVariants.{OutOfMemory}
+use Rattle.jpick.specs.Picked.{Picked, no_line, picked_document, picked_of, rejection_line, row_of, with_answer, with_line}
+use Rattle.jpick.specs.Rows.{row}
 use Rattle.jpick.specs.declared.fields.Wanted.{Wanted}
 use Rattle.jpick.specs.declared.lines.Picker.{Picker}
 
 -- Of a reader with these bytes left before and after, a writer of rows and one that names rejected lines, which held and hold
 -- these: the reader was read to its end, the rows of its lines were written, and its rejected lines were named.
-pub record HasPicked (w : Wanted) (file : List ℕ) (before after held holds named names : Option (List ℕ))
+pub record HasPicked (picked : List ℕ → Picked) (before after held holds named names : Option (List ℕ))
     (result : Result Bool Failure) : Type 0 where
   pub input : List ℕ
   pub read : Consumes before after input
   pub end : IsAtEnd after
-  pub rows : Appends held holds (picked_of w file input).rows
-  pub rejections : Appends named names (picked_of w file input).rejections
-  pub returned : result ≡ Ok (picked_of w file input).all_taken
+  pub rows : Appends held holds (picked input).rows
+  pub rejections : Appends named names (picked input).rejections
+  pub returned : result ≡ Ok (picked input).all_taken
 
 -- of such a run that ended in an error: of what was read, a beginning of the rows was written, and a beginning of the rejected
 -- lines named
-pub record HasBegun (w : Wanted) (file : List ℕ) (before after held holds named names : Option (List ℕ)) : Type 0 where
+pub record HasBegun (picked : List ℕ → Picked) (before after held holds named names : Option (List ℕ)) : Type 0 where
   pub input : List ℕ
   pub read : Consumes before after input
-  pub rows : Begins held holds (picked_of w file input).rows
-  pub rejections : Begins named names (picked_of w file input).rejections
+  pub rows : Begins held holds (picked input).rows
+  pub rejections : Begins named names (picked input).rejections
 
--- of what was read: no line was rejected, among all but the last, or among all if that was to the end
-abbrev pub IsTaken : Wanted → List ℕ → List ℕ → Option (List ℕ) → Bool → Type 0
-IsTaken w file input left taken = ((done : List (List ℕ)) × (last : List ℕ) × (pieces input ≡ done ++ last ∷ [])
+-- of what was read: no line was rejected, among all but the last, or among all if that was to the end (nor the document)
+abbrev pub IsTaken : Wanted → List ℕ → (List ℕ → Picked) → List ℕ → Option (List ℕ) → Bool → Type 0
+IsTaken w file picked input left taken =
+    ((w.is_document ≡ false) × (done : List (List ℕ)) × (last : List ℕ) × (pieces input ≡ done ++ last ∷ [])
     × (taken ≡ (folded (with_line w file) no_line done).all_taken))
-    ⊎ (IsAtEnd left × (taken ≡ (picked_of w file input).all_taken))
+    ⊎ (IsAtEnd left × (taken ≡ (picked input).all_taken))
 
 -- that the reader of the rows has closed them is a failure of their writer, and says so
-abbrev pub SaysTaken : Wanted → List ℕ → List ℕ → Option (List ℕ) → Bool → Failure → Type 0
-SaysTaken w file input left failed (Closed taken) = (failed ≡ true) × IsTaken w file input left taken
-SaysTaken w file input left failed _ = Unit
+abbrev pub SaysTaken : Wanted → List ℕ → (List ℕ → Picked) → List ℕ → Option (List ℕ) → Bool → Failure → Type 0
+SaysTaken w file picked input left failed (Closed taken) = (failed ≡ true) × IsTaken w file picked input left taken
+SaysTaken w file picked input left failed _ = Unit
 
 -- Of a run over ports, of what is known of their bytes: what is written is what was picked of what was read, and reading failed
 -- exactly where the reader did, writing exactly where its writer did, naming rejected lines exactly where theirs did.
-pub record Picks {R W E : Type 0} (remaining : R → Option (List ℕ)) (written : W → Option (List ℕ)) (naming : E → Option (List ℕ))
-    (w : Wanted) (file : List ℕ)
+pub record PicksBy (w : Wanted) (file : List ℕ) (picked : List ℕ → Picked)
+    {R W E : Type 0} (remaining : R → Option (List ℕ)) (written : W → Option (List ℕ)) (naming : E → Option (List ℕ))
     (reader reads : Watched R) (out outs : Watched W) (rejections rejects : Watched E) (result : Result Bool Failure) : Type 0 where
-  pub run : OnOk result (HasPicked w file (remaining reader.inner) (remaining reads.inner) (written out.inner)
+  pub run : OnOk result (HasPicked picked (remaining reader.inner) (remaining reads.inner) (written out.inner)
       (written outs.inner) (naming rejections.inner) (naming rejects.inner) result)
-  pub begun : IfErr result (λ failure. (begun : HasBegun w file (remaining reader.inner) (remaining reads.inner) (written out.inner)
+  pub begun : IfErr result (λ failure. (begun : HasBegun picked (remaining reader.inner) (remaining reads.inner) (written out.inner)
       (written outs.inner) (naming rejections.inner) (naming rejects.inner))
-      × SaysTaken w file begun.input (remaining reads.inner) outs.failed failure)
+      × SaysTaken w file picked begun.input (remaining reads.inner) outs.failed failure)
   pub read : (result ≡ Err Read) ↔ (reads.failed ≡ true)
   pub write : IsErrAnd result (λ failure. is_write failure ≡ true) ↔ (outs.failed ≡ true)
   pub closed : IfErr result (SaysClosed outs.closed)
   pub name : (result ≡ Err Name) ↔ (rejects.failed ≡ true)
+
+abbrev pub Picks : {R W E : Type 0} → (R → Option (List ℕ)) → (W → Option (List ℕ)) → (E → Option (List ℕ)) → Wanted → List ℕ
+    → Watched R → Watched R → Watched W → Watched W → Watched E → Watched E → Result Bool Failure → Type 0
+Picks remaining written naming w file = PicksBy w file (picked_of w file) remaining written naming
+
+-- of a call on a writer that had not failed, if its failures come from there or from want of memory
+abbrev pub header_fault : Bool → Bool → Failure
+header_fault closed true = output_fault closed true
+header_fault closed false = Resources
+
+-- of a writer of what is known: the header was written, or a beginning of it
+abbrev pub Heads : {W : Type 0} → (W → Option (List ℕ)) → Wanted → Watched W → Watched W → Result Unit Failure → Type 0
+Heads written w out outs result =
+    MatchResult result (λ _. (outs.failed ≡ false) × Appends (written out.inner) (written outs.inner) (row w None))
+    (λ failure. (failure ≡ header_fault outs.closed outs.failed) × Begins (written out.inner) (written outs.inner) (row w None))
 
 -- ---- what private clauses cite
 
@@ -92,8 +110,7 @@ pub record Shows {A : Type 0} (picker : Picker A) (before : List ℕ) (held hold
     (r : Picked) : Type 0 where
   pub by : picker.wanted.now ≡ w
   pub of : picker.file.now ≡ file
-  pub limited : picker.buffers.limit ≡ default_max_depth
-  pub reserved : IsReserved picker.wanted.now.longest picker.buffers picker.tape
+  pub limited : picker.buffers.limit ≡ w.depth
   pub number : picker.number ≡ r.number
   pub all_taken : picker.all_taken ≡ r.all_taken
   pub rows : before ++ picker.rows.items ≡ r.rows
@@ -115,3 +132,38 @@ abbrev pub BeginsLine : {A E : Type 0} → (E → Option (List ℕ)) → Picker 
 BeginsLine naming old rejections rejects line =
     (before : List ℕ) (held : Option (List ℕ)) (w : Wanted) (file : List ℕ) (r : Picked)
     → Shows old before held (naming rejections.inner) w file r → Begins held (naming rejects.inner) (with_line w file r line).rejections
+
+-- what was picked has become that with the answer of this text
+abbrev pub TakesText : {A E : Type 0} → (E → Option (List ℕ)) → Picker A → Picker A → Watched E → Watched E → List ℕ → Type 0
+TakesText naming old new rejections rejects text =
+    (before : List ℕ) (held : Option (List ℕ)) (w : Wanted) (file : List ℕ) (r : Picked)
+    → Shows old before held (naming rejections.inner) w file r
+    → Shows new before held (naming rejects.inner) w file (with_answer w file r text (answer text w.depth))
+
+abbrev pub BeginsText : {A E : Type 0} → (E → Option (List ℕ)) → Picker A → Watched E → Watched E → List ℕ → Type 0
+BeginsText naming old rejections rejects text =
+    (before : List ℕ) (held : Option (List ℕ)) (w : Wanted) (file : List ℕ) (r : Picked)
+    → Shows old before held (naming rejections.inner) w file r
+    → Begins held (naming rejects.inner) (with_answer w file r text (answer text w.depth)).rejections
+
+-- of a document, before any line
+abbrev pub TakesDocument : {A E : Type 0} → (E → Option (List ℕ)) → Picker A → Picker A → Watched E → Watched E → List ℕ → Type 0
+TakesDocument naming old new rejections rejects text =
+    (before : List ℕ) (held : Option (List ℕ)) (w : Wanted) (file : List ℕ)
+    → Shows old before held (naming rejections.inner) w file no_line
+    → Shows new before held (naming rejects.inner) w file (picked_document w file text)
+
+abbrev pub BeginsDocument : {A E : Type 0} → (E → Option (List ℕ)) → Picker A → Watched E → Watched E → List ℕ → Type 0
+BeginsDocument naming old rejections rejects text =
+    (before : List ℕ) (held : Option (List ℕ)) (w : Wanted) (file : List ℕ)
+    → Shows old before held (naming rejections.inner) w file no_line
+    → Begins held (naming rejects.inner) (picked_document w file text).rejections
+
+-- an allocation failed
+abbrev pub is_memory : ErrorType → Bool
+is_memory OutOfMemory = true
+is_memory _ = false
+
+abbrev pub is_short : Option Error → Bool
+is_short None = false
+is_short (Some e) = is_memory e.error

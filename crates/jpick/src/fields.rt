@@ -1,12 +1,14 @@
 //! What is picked of the document of a line.
-ghost use Rattle.std.specs.Prelude.{◌≡◌, ◌++◌, OnOk, flat_map, option_map};
+ghost use Rattle.std.specs.Prelude.{◌≡◌, ◌++◌, OnOk, Some, flat_map, option_map};
 ghost use Rattle.std.specs.List.{list_all};
+ghost use Rattle.jsonl.specs.Cells.{after_mark, cells, raw_text};
 ghost use Rattle.simd_json.specs.Viewed.{doc};
-ghost use Rattle.jpick.specs.Rows.{cell, cells, closing, escape_of, escaped, field_text};
-ghost use Rattle.jpick.specs.Rows.{holds};
-ghost use Rattle.jpick.specs.Rows.{is_picked, is_value, missing_text, opening, quote_of, raw_text};
-ghost use Rattle.jpick.specs.Rows.{has_value, other_cell, row, separator};
+ghost use Rattle.simd_json_parts.specs.Document.{string};
+ghost use Rattle.jpick.specs.Rows.{cell_at, closing, escape_of, escaped, field_text, has_value};
+ghost use Rattle.jpick.specs.Rows.{is_picked, is_value, mark_of, meets, no_value_text, opening};
+ghost use Rattle.jpick.specs.Rows.{quote_of, row, value_cell};
 
+use jsonl::tsv_escape;
 use simd_json::tape::Value;
 use simd_json_print::document::append_compact;
 use std::alloc::{AllocError, Allocator};
@@ -28,6 +30,10 @@ pub struct Wanted<'a> {
     pub is_quiet: bool,
     /// How many bytes a line may have.
     pub longest: usize,
+    /// How many containers of a line may be open at a time.
+    pub depth: usize,
+    /// Whether each file is one document.
+    pub is_document: bool,
 }
 
 /// A condition on the document of a line.
@@ -44,7 +50,7 @@ pub enum Filter<'a> {
 impl Filter<'_> {
     // Whether the value meets the condition.
     fn holds(&self, value: &Value<'_, '_>) -> bool
-        ensures { result ≡ holds (doc value.now) self.now }
+        ensures { result ≡ meets (doc value.now) self.now }
     {
         match *self {
             Filter::Is(pointer, other) => is_value(value.pointer(pointer), other),
@@ -80,7 +86,7 @@ impl Layout {
     // What is before the first value, between two of them and after the last one.
     fn marks(self) -> (&'static [u8], &'static [u8], &'static [u8])
         ensures opening { result.0.now ≡ opening self }
-        ensures separator { result.1.now ≡ separator self }
+        ensures mark { result.1.now ≡ mark_of self }
         ensures closing { result.2.now ≡ closing self }
     {
         match self {
@@ -99,7 +105,7 @@ pub fn is_picked(wanted: &Wanted<'_>, value: &Value<'_, '_>) -> bool
 }
 
 fn meets_all(filters: &[Filter<'_>], value: &Value<'_, '_>) -> bool
-    ensures { result ≡ list_all (holds (doc value.now)) filters.now }
+    ensures { result ≡ list_all (meets (doc value.now)) filters.now }
 {
     for filter in filters {
         if !filter.holds(value) {
@@ -121,16 +127,18 @@ fn has_all(pointers: &[&str], value: &Value<'_, '_>) -> bool
     true
 }
 
-/// Appends the row of a value. `spare` may be overwritten.
+/// Appends the row of a value, or without one the header: the pointers themselves, as strings.
+/// `spare` may be overwritten.
 ///
 /// Returns an error if an allocation fails.
 pub fn append_row<A: Allocator>(
     rows: &mut Vec<u8, A>,
     spare: &mut Vec<u8, A>,
     wanted: &Wanted<'_>,
-    value: &Value<'_, '_>,
+    value: Option<Value<'_, '_>>,
 ) -> Result<(), AllocError>
-    ensures { OnOk result (rows.new.items ≡ rows.old.items ++ row wanted.now (doc value.now)) }
+    ensures { OnOk result (rows.new.items
+        ≡ rows.old.items ++ row wanted.now (option_map doc value.entry)) }
 {
     let (opening, _, closing) = wanted.layout.marks();
     rows.extend_from_slice(opening)?;
@@ -143,35 +151,54 @@ fn append_cells<A: Allocator>(
     rows: &mut Vec<u8, A>,
     spare: &mut Vec<u8, A>,
     wanted: &Wanted<'_>,
-    value: &Value<'_, '_>,
+    value: Option<Value<'_, '_>>,
 ) -> Result<(), AllocError>
-    ensures { OnOk result (rows.new.items
-        ≡ rows.old.items ++ cells wanted.now (doc value.now) wanted.now.pointers.now) }
+    ensures { OnOk result (rows.new.items ≡ rows.old.items
+        ++ cells (mark_of wanted.now.layout) (cell_at wanted.now (option_map doc value.entry))
+        wanted.now.pointers.now) }
 {
     let Some((first, rest)) = wanted.pointers.split_first() else {
         return Ok(());
     };
-    append_cell(rows, spare, wanted, value.pointer(*first))?;
+    append_cell_at(rows, spare, wanted, value, *first)?;
     append_others(rows, spare, wanted, value, rest)
 }
 
-// Appends the values at more pointers, each after the mark.
+// Appends the cells of more pointers, each after the mark.
 fn append_others<A: Allocator>(
     rows: &mut Vec<u8, A>,
     spare: &mut Vec<u8, A>,
     wanted: &Wanted<'_>,
-    value: &Value<'_, '_>,
+    value: Option<Value<'_, '_>>,
     pointers: &[&str],
 ) -> Result<(), AllocError>
     ensures { OnOk result (rows.new.items ≡ rows.old.items
-        ++ flat_map (other_cell wanted.now (doc value.now)) pointers.now) }
+        ++ flat_map (after_mark (mark_of wanted.now.layout)
+        (cell_at wanted.now (option_map doc value.entry))) pointers.now) }
 {
-    let (_, separator, _) = wanted.layout.marks();
+    let (_, mark, _) = wanted.layout.marks();
     for pointer in pointers {
-        rows.extend_from_slice(separator)?;
-        append_cell(rows, spare, wanted, value.pointer(*pointer))?;
+        rows.extend_from_slice(mark)?;
+        append_cell_at(rows, spare, wanted, value, *pointer)?;
     }
     Ok(())
+}
+
+// Appends the cell of a pointer.
+fn append_cell_at<A: Allocator>(
+    rows: &mut Vec<u8, A>,
+    spare: &mut Vec<u8, A>,
+    wanted: &Wanted<'_>,
+    value: Option<Value<'_, '_>>,
+    pointer: &str,
+) -> Result<(), AllocError>
+    ensures { OnOk result (rows.new.items ≡ rows.old.items
+        ++ cell_at wanted.now (option_map doc value.entry) pointer.entry) }
+{
+    match value {
+        Some(value) => append_cell(rows, spare, wanted, value.pointer(pointer)),
+        None => append_name(rows, wanted.layout, pointer),
+    }
 }
 
 // Appends what is printed for a pointer with this value.
@@ -182,7 +209,7 @@ fn append_cell<A: Allocator>(
     value: Option<Value<'_, '_>>,
 ) -> Result<(), AllocError>
     ensures { OnOk result (rows.new.items
-        ≡ rows.old.items ++ cell wanted.now (option_map doc value.entry)) }
+        ≡ rows.old.items ++ value_cell wanted.now (option_map doc value.entry)) }
 {
     let Some(value) = value else {
         return append_missing(rows, wanted.layout);
@@ -195,7 +222,7 @@ fn append_cell<A: Allocator>(
 }
 
 fn append_missing<A: Allocator>(rows: &mut Vec<u8, A>, layout: Layout) -> Result<(), AllocError>
-    ensures { OnOk result (rows.new.items ≡ rows.old.items ++ missing_text layout) }
+    ensures { OnOk result (rows.new.items ≡ rows.old.items ++ no_value_text layout) }
 {
     match layout {
         Layout::Json => rows.extend_from_slice(b"null"),
@@ -228,11 +255,39 @@ fn append_field<A: Allocator>(
     }
     spare.clear();
     append_text(spare, value)?;
-    let quote = quote_of(layout, value);
+    append_quoted(rows, layout, quote_of(layout, value), spare.as_slice())
+}
+
+// Appends a text, escaped and between quotes.
+fn append_quoted<A: Allocator>(
+    rows: &mut Vec<u8, A>,
+    layout: Layout,
+    quote: &[u8],
+    text: &[u8],
+) -> Result<(), AllocError>
+    ensures { OnOk result (rows.new.items ≡ rows.old.items
+        ++ (quote.now ++ (flat_map (escaped layout) text.now ++ quote.now))) }
+{
     rows.extend_from_slice(quote)?;
-    append_escaped(rows, layout, spare.as_slice())?;
+    append_escaped(rows, layout, text)?;
     rows.extend_from_slice(quote)?;
     Ok(())
+}
+
+// Appends a pointer as a string.
+fn append_name<A: Allocator>(
+    rows: &mut Vec<u8, A>,
+    layout: Layout,
+    name: &str,
+) -> Result<(), AllocError>
+    ensures { OnOk result (rows.new.items
+        ≡ rows.old.items ++ field_text layout (string name.now)) }
+{
+    let quote = match layout {
+        Layout::Csv => b"\"".as_slice(),
+        _ => b"",
+    };
+    append_quoted(rows, layout, quote, name.as_bytes())
 }
 
 // What is before and after a value: quotes in comma separated text, if it is no truth value and no
@@ -278,10 +333,7 @@ fn escape_of(layout: Layout, byte: u8) -> Option<&'static [u8]>
     ensures { option_map (λ escape. escape.now) result ≡ escape_of layout byte }
 {
     match (layout, byte) {
-        (Layout::Tsv, b'\t') => Some(b"\\t"),
-        (Layout::Tsv, b'\n') => Some(b"\\n"),
-        (Layout::Tsv, b'\r') => Some(b"\\r"),
-        (Layout::Tsv, b'\\') => Some(b"\\\\"),
+        (Layout::Tsv, _) => tsv_escape(byte),
         (Layout::Csv, b'"') => Some(b"\"\""),
         _ => None,
     }

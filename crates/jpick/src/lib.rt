@@ -1,6 +1,8 @@
-//! The values at JSON Pointers in each line of JSON Lines.
+//! The values at JSON Pointers in each line of JSON Lines, or in documents.
 //!
-//! - [`run`]: writes a row of them for each line of a reader, and names rejected lines.
+//! - [`run`]: writes a row of them for each line of a reader, or for its one document, and names what
+//!   is rejected.
+//! - [`write_header`]: writes the row of their names before it.
 //! - [`pick_each`]: a run for each file, and the greatest status.
 //! - [`asked`]: what the program's arguments ask for.
 //!
@@ -17,6 +19,8 @@
 //!         needs_all: false,
 //!         is_quiet: true,
 //!         longest: 65_536,
+//!         depth: 1024,
+//!         is_document: false,
 //!     };
 //!     let mut reader = Channel::new(lines);
 //!     let mut rows = Channel::new(Vec::new(rt.alloc()));
@@ -33,11 +37,13 @@
 
 mod fields;
 mod files;
+mod header;
 mod lines;
 mod options;
 mod runs;
 
 pub use fields::{Filter, Layout, Wanted};
 pub use files::pick_each;
+pub use header::write_header;
 pub use options::{Options, Unasked, asked};
 pub use runs::run;

@@ -1,16 +1,17 @@
 //! The lines of an input, and what is picked of them.
 ghost use Rattle.std.specs.Prelude.{◌≡◌, IfOk, OnOk};
+ghost use Rattle.std.specs.Result.{result_err};
 ghost use Rattle.simd_json.specs.Viewed.{doc};
-ghost use Rattle.jpick.specs.Picked.{place_text, rejection_line};
-ghost use Rattle.jpick.specs.Runs.{BeginsLine, EndsRows, IsRejection, IsStart, PicksValue};
-ghost use Rattle.jpick.specs.Runs.{TakesLine, Writes};
+ghost use Rattle.jpick.specs.Picked.{ends_early, is_hinted, naming_words, rejection_line};
+ghost use Rattle.jpick.specs.Runs.{BeginsDocument, BeginsLine, BeginsText, EndsRows};
+ghost use Rattle.jpick.specs.Runs.{IsRejection, IsStart, PicksValue, is_short};
+ghost use Rattle.jpick.specs.Runs.{TakesDocument, TakesLine, TakesText, Writes};
 ghost use Rattle.jsonl.specs.Failures.{Begins, Ends};
 
 use crate::fields::{Wanted, append_row, is_picked};
-use arrayvec::ArrayVec;
-use jsonl::{Channel, Failure, put_name};
+use jsonl::{Channel, Failure, Words, put_name, rejection_words};
 use simd_json::tape::Value;
-use simd_json::{Buffers, Error, Location, Tape, refill_tape, reserve};
+use simd_json::{Buffers, Error, ErrorType, Tape, refill_tape, reserve};
 use simd_json_parts::charutils::is_blank;
 use simd_json_print::text::Text;
 use std::alloc::{AllocError, Allocator};
@@ -42,7 +43,7 @@ impl<'p, A: Allocator + Copy> Picker<'p, A> {
     pub fn new(a: A, wanted: &'p Wanted<'p>, file: &'p str) -> simd_json::Result<Picker<'p, A>>
         ensures { IfOk result (IsStart wanted.now file.now) }
     {
-        let mut buffers = Buffers::new(a, 0)?;
+        let mut buffers = Buffers::empty(a, wanted.depth);
         let mut tape = Tape::null(a)?;
         reserve(wanted.longest, &mut buffers, &mut tape)?;
         Ok(Picker {
@@ -78,29 +79,51 @@ impl<'p, A: Allocator + Copy> Picker<'p, A> {
         } else if is_blank(line) {
             return Ok(());
         }
+        self.take_text(line, err)
+    }
+
+    /// Takes an input that is one document, before any line.
+    pub fn take_document<E: Write>(&mut self, input: &mut [u8], err: &mut Channel<E>) -> Ended
+        ensures { Ends err.old err.new
+            (TakesDocument E.contents self.old self.new err.old err.new input.old)
+            (BeginsDocument E.contents self.old err.old err.new input.old) result }
+    {
+        self.number = self.number.saturating_add(1);
+        self.take_text(input, err)
+    }
+
+    // Takes the text that was counted last.
+    fn take_text<E: Write>(&mut self, text: &mut [u8], err: &mut Channel<E>) -> Ended
+        ensures { Ends err.old err.new
+            (TakesText E.contents self.old self.new err.old err.new text.old)
+            (BeginsText E.contents self.old err.old err.new text.old) result }
+    {
         self.original.clear();
-        self.original.extend_from_slice(line)?;
+        self.original.extend_from_slice(text)?;
         let kept = std::mem::replace(&mut self.tape, Tape::empty(*self.rows.allocator()));
-        let (answer, tape) = refill_tape(line, &mut self.buffers, kept);
+        let (answer, tape) = refill_tape(text, &mut self.buffers, kept);
+        if is_short_of_memory(&answer) {
+            return Err(Failure::Resources);
+        }
         match answer {
-            Ok(()) => self.pick(&tape.as_value())?,
+            Ok(()) => self.pick(tape.as_value())?,
             Err(e) => self.reject(Some(e), err)?,
         }
         drop(std::mem::replace(&mut self.tape, tape.reset()));
         Ok(())
     }
 
-    // Appends the row of the value of a line, if it is picked.
-    fn pick(&mut self, value: &Value<'_, '_>) -> Result<(), AllocError>
-        ensures { OnOk result (PicksValue self.old self.new (doc value.now)) }
+    // Appends the row of a value, if it is picked.
+    fn pick(&mut self, value: Value<'_, '_>) -> Result<(), AllocError>
+        ensures { OnOk result (PicksValue self.old self.new (doc value.entry)) }
     {
-        if !is_picked(self.wanted, value) {
+        if !is_picked(self.wanted, &value) {
             return Ok(());
         }
-        append_row(&mut self.rows, &mut self.spare, self.wanted, value)
+        append_row(&mut self.rows, &mut self.spare, self.wanted, Some(value))
     }
 
-    // Names the last line as rejected. Without an error it is too long.
+    // Names the last text as rejected. Without an error it is too long.
     fn reject<E: Write>(&mut self, error: Option<Error>, err: &mut Channel<E>) -> Ended
         ensures { Ends err.old err.new
             (IsRejection E.contents self.old self.new err.old err.new error)
@@ -112,26 +135,30 @@ impl<'p, A: Allocator + Copy> Picker<'p, A> {
         if self.wanted.is_quiet {
             return Ok(());
         }
-        let reason = self.reason(error).map_err(|_| Failure::Resources)?;
-        put_name(err, self.file, reason.as_slice())
+        let words = self.naming_words(error).map_err(|_| Failure::Resources)?;
+        put_name(err, self.file, words.as_slice())
     }
 
-    // The number of the last line, where it is wrong and why, and a line feed.
-    fn reason(&self, error: Option<Error>) -> io::Result<ArrayVec<u8, 256>>
-        ensures { IfOk result (λ text. text.items
-            ≡ place_text self.now.wanted.now.longest self.now.number
-            self.now.original.items error) }
+    // What names the last text after the name of the file, and that this may be a document.
+    fn naming_words(&self, error: Option<Error>) -> io::Result<Words>
+        ensures { IfOk result (λ words. words.items
+            ≡ naming_words self.now.wanted.now self.now.number self.now.original.items error) }
     {
-        let mut text = ArrayVec::<u8, 256>::new();
+        let is_hinted = self.is_hinted(&error);
         let (number, longest) = (self.number, self.wanted.longest);
-        let Some(e) = error else {
-            writeln!(text, ":{number}: longer than {longest} bytes")?;
-            return Ok(text);
-        };
-        let location = Location::new(self.original.as_slice(), e);
-        let (column, reason) = (location.column(), location.reason());
-        writeln!(text, ":{number}:{column}: {reason}")?;
-        Ok(text)
+        let mut words = rejection_words(longest, number, self.original.as_slice(), error)?;
+        if !is_hinted {
+            return Ok(words);
+        }
+        writeln!(words, "jpick: with -d each file is one document")?;
+        Ok(words)
+    }
+
+    // Whether the first line ends within a document.
+    fn is_hinted(&self, error: &Option<Error>) -> bool
+        ensures { result ≡ is_hinted self.now.wanted.now self.now.number error.now }
+    {
+        !self.wanted.is_document && self.number == 1 && ends_early(error)
     }
 
     /// Writes the rows that are not written yet.
@@ -150,5 +177,25 @@ impl<'p, A: Allocator + Copy> Picker<'p, A> {
             }
             Err(_) => Err(Failure::of_output(out.closed(), self.all_taken)),
         }
+    }
+}
+
+// Whether the input ends within a document.
+fn ends_early(error: &Option<Error>) -> bool
+    ensures { result ≡ ends_early error.now }
+{
+    match error {
+        Some(e) => *e.error() == ErrorType::Syntax && e.character().is_some(),
+        None => false,
+    }
+}
+
+// Whether an allocation failed.
+fn is_short_of_memory(answer: &simd_json::Result<()>) -> bool
+    ensures { result ≡ is_short (result_err answer.now) }
+{
+    match answer {
+        Ok(()) => false,
+        Err(e) => *e.error() == ErrorType::OutOfMemory,
     }
 }

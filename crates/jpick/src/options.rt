@@ -15,9 +15,13 @@ const STANDARD_INPUT: &str = "-";
 // How many bytes a line may have, if no option says so.
 const LONGEST: u32 = 65_536;
 
-const POINTER_HELP: &str = "JSON Pointers (RFC 6901) to the values, such as /user/name";
+const QUERY_HELP: &str = "Which value is printed: a JSON Pointer (RFC 6901), as /user/name";
+
+const AND_HELP: &str = "A further value to print, in a column of its own";
 
 const FILE_HELP: &str = "Files to read; standard input where there is none, or for -";
+
+const DOCUMENT_HELP: &str = "Read each file as one document, in memory that grows with it";
 
 const RAW_HELP: &str = "Print a string as its text, without quotes and escapes";
 
@@ -25,9 +29,11 @@ const TSV_HELP: &str = "Print rows of tab separated text, with escapes as jq's @
 
 const CSV_HELP: &str = "Print rows of comma separated text, quoted as jq's @csv";
 
+const HEADER_HELP: &str = "Print the queries in a row of their own first";
+
 const JSON_HELP: &str = "Print each row as a JSON array";
 
-const ALL_HELP: &str = "Leave out a line where a POINTER has no value";
+const ALL_HELP: &str = "Leave out a line where a QUERY has no value";
 
 const WHERE_HELP: &str = "Only lines where the value at POINTER is JSON";
 
@@ -39,6 +45,8 @@ const QUIET_HELP: &str = "Do not name rejected lines";
 
 const LIMIT_HELP: &str = "How many bytes a line may have [default: 65536]";
 
+const DEPTH_HELP: &str = "How many containers may be open at a time [default: 1024]";
+
 /// What the arguments ask for.
 #[derive(Drop)]
 pub struct Options<'a> {
@@ -46,6 +54,7 @@ pub struct Options<'a> {
     filters: Vec<Filter<'a>>,
     flags: Flags,
     longest: u32,
+    depth: usize,
     files: Vec<&'a str>,
 }
 
@@ -59,15 +68,19 @@ impl<'a> Options<'a> {
         ensures { IfOk result (HasOptions (found_of matches.now)) }
     {
         let mut pointers = Vec::new(alloc);
-        for pointer in texts(matches, "pointer") {
+        pointers.extend_from_slice(texts(matches, "query"))?;
+        pointers.extend_from_slice(texts(matches, "and"))?;
+        for pointer in &pointers {
             pointer_named(*pointer)?;
         }
-        pointers.extend_from_slice(texts(matches, "pointer"))?;
         Ok(Options {
             pointers,
             filters: filters(alloc, arena, matches)?,
             flags: Flags::of(matches),
             longest: matches.get_one::<u32>("limit").unwrap_or(LONGEST),
+            depth: matches
+                .get_one::<usize>("depth")
+                .unwrap_or(DEFAULT_MAX_DEPTH),
             files: files(alloc, matches)?,
         })
     }
@@ -81,6 +94,8 @@ impl<'a> Options<'a> {
         ensures needs_all { result.needs_all ≡ self.now.flags.needs_all }
         ensures is_quiet { result.is_quiet ≡ self.now.flags.is_quiet }
         ensures longest { result.longest ≡ self.now.longest }
+        ensures depth { result.depth ≡ self.now.depth }
+        ensures is_document { result.is_document ≡ self.now.flags.is_document }
     {
         Wanted {
             pointers: self.pointers.as_slice(),
@@ -90,7 +105,16 @@ impl<'a> Options<'a> {
             needs_all: self.flags.needs_all,
             is_quiet: self.flags.is_quiet,
             longest: self.longest as usize,
+            depth: self.depth,
+            is_document: self.flags.is_document,
         }
+    }
+
+    /// Whether the row of the queries is printed first.
+    pub fn has_header(&self) -> bool
+        ensures { result ≡ self.now.flags.has_header }
+    {
+        self.flags.has_header
     }
 
     /// The names of the files, of which there is at least one.
@@ -108,6 +132,8 @@ struct Flags {
     is_raw: bool,
     needs_all: bool,
     is_quiet: bool,
+    has_header: bool,
+    is_document: bool,
 }
 
 impl Flags {
@@ -123,6 +149,8 @@ impl Flags {
             is_raw: is_given(matches, "raw"),
             needs_all: is_given(matches, "all"),
             is_quiet: is_given(matches, "quiet"),
+            has_header: is_given(matches, "header"),
+            is_document: is_given(matches, "document"),
         }
     }
 }
@@ -269,7 +297,8 @@ fn flag<'a>(alloc: Global, name: &'a str, help: &'a str) -> Arg<'a> {
         .help(help)
 }
 
-fn condition<'a>(alloc: Global, name: &'a str, value: &'a str, help: &'a str) -> Arg<'a> {
+// An option with a value, which may be given several times.
+fn repeated<'a>(alloc: Global, name: &'a str, value: &'a str, help: &'a str) -> Arg<'a> {
     Arg::new(alloc, name)
         .long(name)
         .value_name(value)
@@ -279,42 +308,57 @@ fn condition<'a>(alloc: Global, name: &'a str, value: &'a str, help: &'a str) ->
 }
 
 fn command<'a>(alloc: Global) -> Result<Command<'a>, Error> {
-    let pointers = Arg::new(alloc, "pointer")
-        .value_name("POINTER")
-        .action(ArgAction::Append)
-        .num_args(1..)
+    let query = Arg::new(alloc, "query")
+        .value_name("QUERY")
         .required(true)
-        .help(POINTER_HELP);
+        .help(QUERY_HELP);
     let files = Arg::new(alloc, "file")
         .value_name("FILE")
         .action(ArgAction::Append)
         .num_args(0..)
-        .last(true)
         .help(FILE_HELP);
+    let command = Command::new(alloc, "jpick")
+        .version("0.2.0")
+        .about("Prints the values at JSON Pointers in each line of JSON Lines, or in documents");
+    let command = with_rows(alloc, command)?;
+    let command = with_lines(alloc, command)?;
+    Ok(command.arg(query)?.arg(files)?)
+}
+
+// The options that say what a row is.
+fn with_rows<'a>(alloc: Global, command: Command<'a>) -> Result<Command<'a>, Error> {
+    Ok(command
+        .arg(repeated(alloc, "and", "QUERY", AND_HELP))?
+        .arg(flag(alloc, "raw", RAW_HELP).short('r'))?
+        .arg(
+            flag(alloc, "tsv", TSV_HELP)
+                .conflicts_with("csv")?
+                .conflicts_with("json")?,
+        )?
+        .arg(flag(alloc, "csv", CSV_HELP).conflicts_with("json")?)?
+        .arg(flag(alloc, "json", JSON_HELP))?
+        .arg(flag(alloc, "header", HEADER_HELP).conflicts_with("json")?)?)
+}
+
+// The options that say of what there are rows.
+fn with_lines<'a>(alloc: Global, command: Command<'a>) -> Result<Command<'a>, Error> {
     let limit = Arg::new(alloc, "limit")
         .long("longest")
         .value_name("BYTES")
         .value_parser(value_parser!(u32))
         .help(LIMIT_HELP);
-    Ok(
-        Command::new(alloc, "jpick")
-            .version("0.2.0")
-            .about("Prints the values at JSON Pointers in each line of JSON Lines")
-            .arg(flag(alloc, "raw", RAW_HELP).short('r'))?
-            .arg(
-                flag(alloc, "tsv", TSV_HELP)
-                    .conflicts_with("csv")?
-                    .conflicts_with("json")?,
-            )?
-            .arg(flag(alloc, "csv", CSV_HELP).conflicts_with("json")?)?
-            .arg(flag(alloc, "json", JSON_HELP))?
-            .arg(flag(alloc, "all", ALL_HELP))?
-            .arg(condition(alloc, "where", "POINTER=JSON", WHERE_HELP))?
-            .arg(condition(alloc, "where-not", "POINTER=JSON", WHERE_NOT_HELP))?
-            .arg(condition(alloc, "exists", "POINTER", EXISTS_HELP))?
-            .arg(flag(alloc, "quiet", QUIET_HELP).short('q'))?
-            .arg(limit)?
-            .arg(pointers)?
-            .arg(files)?,
-    )
+    let depth = Arg::new(alloc, "depth")
+        .long("depth")
+        .value_name("N")
+        .value_parser(value_parser!(usize))
+        .help(DEPTH_HELP);
+    Ok(command
+        .arg(flag(alloc, "document", DOCUMENT_HELP).short('d'))?
+        .arg(flag(alloc, "all", ALL_HELP))?
+        .arg(repeated(alloc, "where", "POINTER=JSON", WHERE_HELP))?
+        .arg(repeated(alloc, "where-not", "POINTER=JSON", WHERE_NOT_HELP))?
+        .arg(repeated(alloc, "exists", "POINTER", EXISTS_HELP))?
+        .arg(flag(alloc, "quiet", QUIET_HELP).short('q'))?
+        .arg(limit)?
+        .arg(depth)?)
 }

@@ -1,12 +1,12 @@
-//! `jpick [OPTION].. POINTER.. [-- FILE..]` prints the values at JSON Pointers in each line of JSON
-//! Lines. docs/LINES.md says what it prints. The library `jpick` picks; here are files and the
-//! status.
+//! `jpick [OPTION].. QUERY [FILE..]` prints the values at JSON Pointers in each line of JSON Lines.
+//! docs/LINES.md says what it prints. The library `jpick` picks; here are files and the status.
 #![tactic(auto)]
 
 use bumpalo::Bump;
-use jpick::{Options, Unasked, Wanted, asked, pick_each, run};
+use jpick::{Options, Unasked, Wanted, asked, pick_each, run, write_header};
 use jsonl::{Channel, Failure, Source, arguments, ending, help_status};
-use std::io;
+use std::io::{self, IsTerminal};
+use std::path::Path;
 use std::process::ExitCode;
 
 fn main(rt: HostRuntime) -> ExitCode {
@@ -23,16 +23,16 @@ fn main(rt: HostRuntime) -> ExitCode {
 fn program(rt: &HostRuntime, words: &[String]) -> u8 {
     let arena = Bump::new(rt.alloc());
     match asked(rt.alloc(), &arena, words) {
-        Ok(options) => pick_files(rt, &options),
+        Ok(options) => match file_for_query(rt, &options) {
+            Some(word) => print_unasked(rt, word),
+            None => pick_files(rt, &options),
+        },
         Err(Unasked::Text(e)) if e.use_stderr() => {
             let _ = e.print(rt);
             2
         }
         Err(Unasked::Text(e)) => help_status(rt, "jpick", &e.print(rt)),
-        Err(Unasked::NoPointer(pointer)) => {
-            let _ = eprintln!(rt; "jpick: `{pointer}` is not a JSON Pointer");
-            2
-        }
+        Err(Unasked::NoPointer(word)) => print_unasked(rt, word),
         Err(Unasked::NoCondition(condition)) => {
             let _ = eprintln!(rt; "jpick: `{condition}` is not a JSON Pointer, `=` and JSON");
             2
@@ -44,8 +44,34 @@ fn program(rt: &HostRuntime, words: &[String]) -> u8 {
     }
 }
 
+// Prints that the word is no query.
+fn print_unasked(rt: &HostRuntime, word: &str) -> u8 {
+    let reason = if Path::new(word).is_file(rt) {
+        "is a file; the first word is the query, a JSON Pointer"
+    } else {
+        "is not a JSON Pointer"
+    };
+    let _ = eprintln!(rt; "jpick: `{word}` {reason}");
+    2
+}
+
+// The query, if it names a file, and lines would come from a terminal.
+fn file_for_query<'o>(rt: &HostRuntime, options: &'o Options<'_>) -> Option<&'o str> {
+    let query = *options.wanted().pointers.first()?;
+    let is_awaited = matches!(options.files(), ["-"]) && rt.stdin().is_terminal();
+    (is_awaited && Path::new(query).is_file(rt)).then_some(query)
+}
+
 fn pick_files(rt: &HostRuntime, options: &Options<'_>) -> u8 {
     let wanted = options.wanted();
+    if options.has_header() {
+        let mut out = Channel::new(io::writer(rt));
+        let headed = write_header(rt.alloc(), &wanted, &mut out).and(Ok(true));
+        if headed.is_err() {
+            print_ending(rt, &headed);
+            return ending(&headed).0;
+        }
+    }
     pick_each(|file| pick_file(rt, &wanted, file), options.files())
 }
 
@@ -57,8 +83,12 @@ fn pick_file(rt: &HostRuntime, wanted: &Wanted<'_>, file: &str) -> Result<bool, 
     if let Some((file, e)) = reader.into_inner().fault() {
         let _ = eprintln!(rt; "jpick: {file}: {e}");
     }
-    if let Some(line) = ending(&ended).1 {
+    print_ending(rt, &ended);
+    ended
+}
+
+fn print_ending(rt: &HostRuntime, ended: &Result<bool, Failure>) {
+    if let Some(line) = ending(ended).1 {
         let _ = eprintln!(rt; "jpick: {line}");
     }
-    ended
 }

@@ -16,7 +16,7 @@ fn words(alloc: Global, arguments: &[&str]) -> Result<Vec<String>, AllocError> {
 }
 
 // Arguments; the layout; whether rows are raw, need all and are quiet; how many bytes a line may
-// have; files. The pointers are `/a` and `/b`.
+// have; files. The queries are `/a` and `/b`.
 type Row = (
     &'static [&'static str],
     Layout,
@@ -29,55 +29,79 @@ type Row = (
 fn arguments_are_read(rt: HostRuntime) -> Tested {
     let none = [false; 3];
     let rows: [Row; 13] = [
-        (&["/a", "/b"], Layout::Tabs, none, 65_536, &["-"]),
-        (&["--tsv", "/a", "/b"], Layout::Tsv, none, 65_536, &["-"]),
-        (&["--csv", "/a", "/b"], Layout::Csv, none, 65_536, &["-"]),
-        (&["--json", "/a", "/b"], Layout::Json, none, 65_536, &["-"]),
-        (&["/a", "--json", "/b"], Layout::Json, none, 65_536, &["-"]),
+        (&["/a", "--and", "/b"], Layout::Tabs, none, 65_536, &["-"]),
         (
-            &["-r", "/a", "/b"],
+            &["--tsv", "/a", "--and", "/b"],
+            Layout::Tsv,
+            none,
+            65_536,
+            &["-"],
+        ),
+        (
+            &["--csv", "/a", "--and", "/b"],
+            Layout::Csv,
+            none,
+            65_536,
+            &["-"],
+        ),
+        (
+            &["--json", "/a", "--and", "/b"],
+            Layout::Json,
+            none,
+            65_536,
+            &["-"],
+        ),
+        (
+            &["/a", "--json", "--and", "/b"],
+            Layout::Json,
+            none,
+            65_536,
+            &["-"],
+        ),
+        (
+            &["-r", "/a", "--and", "/b"],
             Layout::Tabs,
             [true, false, false],
             65_536,
             &["-"],
         ),
         (
-            &["--raw", "/a", "/b"],
+            &["--raw", "/a", "--and", "/b"],
             Layout::Tabs,
             [true, false, false],
             65_536,
             &["-"],
         ),
         (
-            &["--all", "/a", "/b"],
+            &["--all", "/a", "--and", "/b"],
             Layout::Tabs,
             [false, true, false],
             65_536,
             &["-"],
         ),
         (
-            &["-q", "/a", "/b"],
+            &["-q", "/a", "--and", "/b"],
             Layout::Tabs,
             [false, false, true],
             65_536,
             &["-"],
         ),
         (
-            &["--quiet", "/a", "/b"],
+            &["--quiet", "/a", "--and", "/b"],
             Layout::Tabs,
             [false, false, true],
             65_536,
             &["-"],
         ),
         (
-            &["--longest", "7", "/a", "/b"],
+            &["--longest", "7", "/a", "--and", "/b"],
             Layout::Tabs,
             none,
             7,
             &["-"],
         ),
         (
-            &["/a", "/b", "--", "f", "-", "--csv"],
+            &["/a", "f", "--and", "/b", "--", "-", "--csv"],
             Layout::Tabs,
             none,
             65_536,
@@ -89,8 +113,8 @@ fn arguments_are_read(rt: HostRuntime) -> Tested {
                 "--all",
                 "--csv",
                 "--longest=4294967295",
+                "--and=/b",
                 "/a",
-                "/b",
                 "--",
                 "f",
             ],
@@ -114,6 +138,20 @@ fn arguments_are_read(rt: HostRuntime) -> Tested {
         assert_eq!(rt; wanted.pointers, ["/a", "/b"].as_slice());
         assert_eq!(rt; wanted.filters.len(), 0);
         assert_eq!(rt; options.files(), files);
+    }
+    Ok(())
+}
+
+#[test]
+fn a_depth_is_read(rt: HostRuntime) -> Tested {
+    let rows: [(&[&str], usize); 2] = [(&["/a"], 1024), (&["--depth", "0", "/a"], 0)];
+    for (arguments, depth) in rows {
+        let words = words(rt.alloc(), arguments)?;
+        let arena = Bump::new(rt.alloc());
+        match asked(rt.alloc(), &arena, words.as_slice()) {
+            Ok(options) => assert_eq!(rt; options.wanted().depth, depth),
+            Err(_) => assert!(rt; false),
+        }
     }
     Ok(())
 }
@@ -158,7 +196,7 @@ fn conditions_are_read(rt: HostRuntime) -> Tested {
 fn wrong_arguments_are_named(rt: HostRuntime) -> Tested {
     let rows: [(&[&str], &str, &str); 7] = [
         (&["a"], "a", ""),
-        (&["/a", "/~"], "/~", ""),
+        (&["/a", "--and", "/~"], "/~", ""),
         (&["/a", "--exists", "b"], "b", ""),
         (&["/a", "--where", "b=1"], "b", ""),
         (&["/a", "--where", "/b"], "", "/b"),

@@ -16,6 +16,8 @@ fn wanted<'a>(pointers: &'a [&'a str], layout: Layout) -> Wanted<'a> {
         needs_all: false,
         is_quiet: false,
         longest: 10,
+        depth: 1024,
+        is_document: false,
     }
 }
 
@@ -54,7 +56,7 @@ fn lines_are_picked_however_they_are_cut(rt: HostRuntime) {
         (
             b"\n[1,]\n{\"k\":1}",
             b"1\n",
-            b"f:2:4: expected a value, found `]`\n",
+            b"f:2:4: expected a value, found `]` [InternalError]\n",
             false,
         ),
         (
@@ -72,11 +74,96 @@ fn lines_are_picked_however_they_are_cut(rt: HostRuntime) {
         (
             b"[\"\\n\x01\"]\n[\xff",
             b"",
-            b"f:1:5: control character 1 in a string\nf:2:2: byte 255 begins no UTF-8 character\n",
+            b"f:1:5: control character 1 in a string [Syntax]\n\
+                f:2:2: byte 255 begins no UTF-8 character [InvalidUtf8]\n",
             false,
         ),
     ];
     let wanted = wanted(&["/k"], Layout::Tabs);
+    for (input, picked, rejections, all_taken) in rows {
+        for size in 1..24 {
+            let ran = run_by(rt.alloc(), &wanted, size, input);
+            assert_eq!(rt; ran.result, Ok(all_taken));
+            assert_eq!(rt; ran.rows.as_slice(), picked);
+            assert_eq!(rt; ran.rejections.as_slice(), rejections);
+        }
+    }
+}
+
+const HINT: &str = "jpick: with -d each file is one document\n";
+
+// Where the first line ends within a document, the name says that the file may be one.
+#[test]
+fn documents_are_hinted_at(rt: HostRuntime) -> Tested {
+    let rows: [(&[u8], &str, &str); 5] = [
+        (
+            b"{\n \"k\":1}\n",
+            "f:1:1: the input ends after this, within the document [Syntax]\n",
+            "f:2:5: more text after the document [TrailingData]\n",
+        ),
+        (
+            b"[1,\n[2,\n",
+            "f:1:3: the input ends after this, within the document [Syntax]\n",
+            "f:2:3: the input ends after this, within the document [Syntax]\n",
+        ),
+        (
+            b"\"\n[2,\n",
+            "f:1:1: the string that begins here has no end [Syntax]\n",
+            "f:2:3: the input ends after this, within the document [Syntax]\n",
+        ),
+        (
+            b"\n[2,",
+            "f:2:3: the input ends after this, within the document [Syntax]\n",
+            "",
+        ),
+        (
+            b"[1,]",
+            "f:1:4: expected a value, found `]` [InternalError]\n",
+            "",
+        ),
+    ];
+    let wanted = wanted(&["/k"], Layout::Tabs);
+    for (input, first, rest) in rows {
+        let ran = run_by(rt.alloc(), &wanted, 16, input);
+        let hint = if first.contains("1:1: the input") || first.contains("1:3: the input") {
+            HINT
+        } else {
+            ""
+        };
+        let named = format!(in rt.alloc(); "{first}{hint}{rest}")?;
+        assert_eq!(rt; ran.result, Ok(false));
+        assert_eq!(rt; String::from_utf8(ran.rejections)?.as_str(), named.as_str());
+    }
+    Ok(())
+}
+
+// An input is one document, which may have any size, and lines.
+#[test]
+fn documents_are_picked(rt: HostRuntime) {
+    let rows: [Row; 5] = [
+        (b"{\n\"k\": [1,\n 2]}\n", b"[1,2]\n", b"", true),
+        (b"{\"j\": 12345678901234567890}", b"\n", b"", true),
+        (
+            b"{\"k\":1}\n{\"k\":2}\n",
+            b"",
+            b"f:2:1: more text after the document [TrailingData]\n",
+            false,
+        ),
+        (
+            b"[1,\n\n  2",
+            b"",
+            b"f:3:3: the input ends after this, within the document [Syntax]\n",
+            false,
+        ),
+        (
+            b" \n",
+            b"",
+            b"f:2:1: expected a value, found only whitespace [Eof]\n",
+            false,
+        ),
+    ];
+    let mut wanted = wanted(&["/k"], Layout::Tabs);
+    wanted.is_document = true;
     for (input, picked, rejections, all_taken) in rows {
         for size in 1..24 {
             let ran = run_by(rt.alloc(), &wanted, size, input);
@@ -154,6 +241,8 @@ fn filters_pass_lines_over(rt: HostRuntime) {
         needs_all: false,
         is_quiet: false,
         longest: 10,
+        depth: 1024,
+        is_document: false,
     };
     let ran = run_by(
         rt.alloc(),
@@ -180,7 +269,8 @@ const TWO_REJECTED: &[u8] = b"{\"k\":1}\n[1,]\n{\"k\":23}\n           ";
 
 const ROWS: &[u8] = b"1\n23\n";
 
-const REJECTIONS: &[u8] = b"f:2:4: expected a value, found `]`\nf:4: longer than 10 bytes\n";
+const REJECTIONS: &[u8] =
+    b"f:2:4: expected a value, found `]` [InternalError]\nf:4: longer than 10 bytes\n";
 
 #[derive(Drop)]
 struct Stopped {
@@ -221,7 +311,7 @@ fn a_failed_read_ends_the_run(rt: HostRuntime) {
     assert_eq!(rt; ran.out.into_inner().taken.as_slice(), ROWS);
     assert_eq!(rt;
         Some(ran.rejections.into_inner().taken.as_slice()),
-        REJECTIONS.get(..35)
+        REJECTIONS.get(..51)
     );
 }
 
@@ -300,6 +390,71 @@ fn no_memory_is_taken_after_the_start(rt: HostRuntime) -> Tested {
     Ok(())
 }
 
+// A document of which reading or writing fails, and one for which memory does, at each allocation:
+// nothing is written then, or a prefix of the row.
+#[test]
+fn documents_that_fail(rt: HostRuntime) -> Tested {
+    let input = b"{\"k\":[[1],[2]]}\n".as_slice();
+    let mut wanted = wanted(&["/k"], Layout::Tabs);
+    wanted.is_document = true;
+    let mut reader = Channel::new(Blocks {
+        rest: input,
+        size: 3,
+        fault: Some(ErrorKind::Interrupted),
+    });
+    let mut out = Channel::new(Vec::new(rt.alloc()));
+    let mut rejections = Channel::new(Vec::new(rt.alloc()));
+    let result = run(
+        rt.alloc(),
+        &wanted,
+        "f",
+        &mut reader,
+        &mut out,
+        &mut rejections,
+    );
+    assert_eq!(rt; result, Err(Failure::Read));
+    assert_eq!(rt; out.into_inner().len() + rejections.into_inner().len(), 0);
+    for fault in FAULTS {
+        let mut out = failing(rt.alloc(), 4, fault);
+        let mut rejections = failing(rt.alloc(), 0, fault);
+        let mut reader = Channel::new(input);
+        let result = run(
+            rt.alloc(),
+            &wanted,
+            "f",
+            &mut reader,
+            &mut out,
+            &mut rejections,
+        );
+        let failure = match fault {
+            Some(ErrorKind::BrokenPipe) => Failure::Closed(true),
+            _ => Failure::Write,
+        };
+        assert_eq!(rt; result, Err(failure));
+        assert_eq!(rt; out.into_inner().taken.as_slice(), b"[[1]".as_slice());
+    }
+    let (mut has_failed, mut has_run) = (false, false);
+    for size in 1..96 {
+        let heap = LocalHeap::new(rt.alloc(), size << 13)?;
+        let mut reader = Channel::new(input);
+        let mut out = Channel::new(Vec::new(rt.alloc()));
+        let mut rejections = Channel::new(Vec::new(rt.alloc()));
+        let result = run(&heap, &wanted, "f", &mut reader, &mut out, &mut rejections);
+        let (rows, rejections) = (out.into_inner(), rejections.into_inner());
+        assert_eq!(rt; rejections.len(), 0);
+        if result == Err(Failure::Resources) {
+            has_failed = true;
+            assert_eq!(rt; rows.len(), 0);
+        } else {
+            has_run = true;
+            assert_eq!(rt; result, Ok(true));
+            assert_eq!(rt; rows.as_slice(), b"[[1],[2]]\n".as_slice());
+        }
+    }
+    assert!(rt; has_failed && has_run);
+    Ok(())
+}
+
 // In heaps of growing size each allocation of the start fails in some: nothing is read or written
 // then.
 #[test]
@@ -324,7 +479,7 @@ fn too_little_memory_ends_the_run(rt: HostRuntime) -> Tested {
             assert_eq!(rt; rows.as_slice(), b"1\n".as_slice());
             assert_eq!(rt;
                 rejections.as_slice(),
-                b"f:2:4: expected a value, found `]`\n".as_slice()
+                b"f:2:4: expected a value, found `]` [InternalError]\n".as_slice()
             );
         }
     }

@@ -1,22 +1,14 @@
-use Rattle.std.proofs.Common.{◌≡◌, ◌∙◌, ◌≤◌, ◌++◌, ap, arith, length, refl, subst, sym, List, ℕ, false}
-use Rattle.std.specs.Prelude.{IfNone, None, Option, Some}
-use Rattle.std.specs.Result.{result_err}
-use Rattle.simd_json_check.specs.Capacities.{default_max_depth}
-use Rattle.simd_json.specs.Parsed.{IsParsed}
-use Rattle.simd_json.specs.Reserved.{IsReserved}
-use Rattle.simd_json.specs.Viewed.{doc}
+use Rattle.std.proofs.Common.{◌≡◌, ◌∙◌, ap, arith, refl, subst, sym, List, ℕ, false}
+use Rattle.std.specs.Prelude.{None, Option}
 use Rattle.simd_json_parts.specs.Answer.{answer}
 use Rattle.jpick.specs.Picked.{Picked, next, with_answer, with_line, with_rejection}
 use Rattle.jpick.specs.Runs.{Shows}
 use Rattle.jpick.specs.declared.fields.Wanted.{Wanted}
 use Rattle.jpick.specs.declared.lines.Picker.{Picker}
-use Rattle.jpick.proofs.Answered.{answered, rejected-line}
-use Rattle.jpick.proofs.Shown.{begins-line, begins-rejected, long-line, named-as, picked-over, rejected-over, short-line}
-use Rattle.jpick.proofs.Shown.{shows-next, shows-picked, shows-rejected}
-use Rattle.jsonl.proofs.Calls.{handed-on, weaker}
-use Rattle.jsonl.specs.Failures.{Begins, name_fault}
+use Rattle.jpick.proofs.Shown.{begins-rejected, long-line, named-as, short-line, shows-next, shows-rejected}
+use Rattle.jsonl.proofs.Calls.{weaker}
+use Rattle.jsonl.specs.Failures.{Begins}
 use Rattle.jpick.proofs.lines.Picker.take_line.Goals as goal
-use Rattle.jpick.proofs.lines.Picker.take_line.Goals.{in-Ok+in_ok-pick-in-Ok, in-Err+in_ok-reject-in-Err}
 
 pub returns-then-line-self : goal.returns-then-line-self
 returns-then-line-self g c = λ sound.
@@ -26,8 +18,8 @@ returns-then-line-self g c = λ sound.
     let start = g.E.Write.contents c.args.err.now.inner in
     let shows : (before : List ℕ) (held : Option (List ℕ)) (w : Wanted) (file : List ℕ) (r : Picked) → Shows old before held start w file r
     → Shows mid before held start w file (next r) =
-    λ before held w file r shown. shows-next old mid c.saturating_add-self.result before held start w file r
-    c.saturating_add-self.ensures refl refl shown.reserved shown in
+    λ before held w file r shown. shows-next old c.saturating_add-self.result before held start w file r
+    c.saturating_add-self.ensures shown in
     let long : (w : Wanted) (file : List ℕ) (r : Picked) → old.wanted.now ≡ w
     → with_rejection w file (next r) line None ≡ with_line w file r line =
     λ w file r by. long-line w file r line (omega (arith, c.if-line-self.true, ap (λ v. v.longest) by)) in
@@ -41,91 +33,20 @@ returns-then-line-self g c = λ sound.
     (named-as mid mid.original.items before held _ w file (next r) None refl (shows before held w file r shown))
     (shows before held w file r shown) begun)) (c.reject.ensures sound)
 
-pub returns-in_err-extend_from_slice : goal.returns-in_err-extend_from_slice
-returns-in_err-extend_from_slice g c = λ sound.
-    handed-on c.from_residual.result _ _ _ _ c.from_residual.ensures.1 (λ e none. none ∙ ap name_fault (sym sound))
-    (λ before held w file r shown. begins-line c.args.self.now before held _ w file r c.args.line.now shown)
-
-pub returns-in_err-pick-in-Ok : goal.returns-in_err-pick-in-Ok
-returns-in_err-pick-in-Ok g c = λ sound.
-    handed-on c.from_residual-in_err-pick-in-Ok.result _ _ _ _ c.from_residual-in_err-pick-in-Ok.ensures.1
-    (λ e none. none ∙ ap name_fault (sym sound))
-    (λ before held w file r shown. begins-line c.args.self.now before held _ w file r c.args.line.now shown)
-
-pub returns-in_err-reject-in-Err : goal.returns-in_err-reject-in-Err
-returns-in_err-reject-in-Err g c = λ sound.
-    let old = c.args.self.now in
-    let line = c.args.line.now in
-    let mid : Picker g.row.A.Denot = record old { number = c.saturating_add-self.result; original = c.extend_from_slice.new.self } in
-    let start = g.E.Write.contents c.args.err.now.inner in
-    let original : mid.original.items ≡ line = c.in_ok-extend_from_slice.ensures.items ∙ ap (λ us. us ++ line) c.clear.ensures.items in
-    let rejected = c.in_err-reject-in-Err.ensures sound in
-    handed-on c.from_residual-in_err-reject-in-Err.result _ _ _ _ c.from_residual-in_err-reject-in-Err.ensures.1
-    (λ e is. is ∙ rejected.0) (λ before held w file r shown.
-    let kept = subst (IsReserved old.wanted.now.longest old.buffers) (sym c.replace-kept.ensures.value) shown.reserved in
-    let is = rejected-line w file r line old.buffers.limit _ _ c.in-Err.e _ _ c.in-Err.is c.refill_tape-answer.ensures.parse
-    ((c.refill_tape-answer.ensures.reserved old.wanted.now.longest kept).1 c.if-line-self.false) shown.limited
-    (omega (arith, c.if-line-self.false, ap (λ v. v.longest) shown.by)) (sym c.is_blank.ensures ∙ c.if-is_blank.false) in
-    let mid_shown = shows-next old mid c.saturating_add-self.result before held start w file r c.saturating_add-self.ensures refl refl
-    shown.reserved shown in
-    subst (λ s. Begins held (g.E.Write.contents c.reject-in-Err.new.err.inner) s.rejections) is
-    (begins-rejected mid before held _ _ w file (next r) line (Some c.in-Err.e)
-    (named-as mid line before held _ w file (next r) (Some c.in-Err.e) original mid_shown) mid_shown rejected.1))
-
 pub returns : goal.returns
 returns g c = λ sound.
     let old = c.args.self.now in
     let line = c.args.line.now in
-    let number = c.saturating_add-self.result in
-    let buffers = c.refill_tape-answer.new.buffers in
-    let tape = c.reset.result in
-    let parse = c.refill_tape-answer.ensures.parse in
-    let nodes = c.refill_tape-answer.result.1.nodes in
     let start = g.E.Write.contents c.args.err.now.inner in
-    let parsed : Picker g.row.A.Denot = record old {
-      number = number;
-      original = c.extend_from_slice.new.self;
-      buffers = buffers;
-      tape = tape;
-    } in
-    let original : parsed.original.items ≡ line = c.in_ok-extend_from_slice.ensures.items ∙ ap (λ us. us ++ line) c.clear.ensures.items in
-    let parsed_shown : (before : List ℕ) (held : Option (List ℕ)) (w : Wanted) (file : List ℕ) (r : Picked)
-    → Shows old before held start w file r → Shows parsed before held start w file (next r) =
-    λ before held w file r shown.
-    shows-next old parsed number before held start w file r c.saturating_add-self.ensures refl c.refill_tape-answer.ensures.limit
-    (subst (IsReserved old.wanted.now.longest buffers) (sym c.reset.ensures)
-    (c.refill_tape-answer.ensures.reserved old.wanted.now.longest
-    (subst (IsReserved old.wanted.now.longest old.buffers) (sym c.replace-kept.ensures.value) shown.reserved)).0) shown in
+    let end = g.E.Write.contents c.take_text.new.err.inner in
     let short : (w : Wanted) (file : List ℕ) (r : Picked) → old.wanted.now ≡ w
-    → with_answer w file (next r) line (answer line default_max_depth) ≡ with_line w file r line =
+    → with_answer w file (next r) line (answer line w.depth) ≡ with_line w file r line =
     λ w file r by. short-line w file r line false (omega (arith, c.if-line-self.false, ap (λ v. v.longest) by))
     (sym c.is_blank.ensures ∙ c.if-is_blank.false) in
-    elim c.match-answer.branch [
-      | in-Ok+in_ok-pick-in-Ok v ↦
-          let listed = subst (λ r. IfNone (result_err r) (IsParsed line old.buffers.limit nodes)) v.in-Ok.is parse.parsed in
-          rw (v.self-is, v.err-is, c.replace.ensures.after) (
-            sound,
-            λ before held w file r shown.
-                let is = answered line old.buffers.limit nodes (doc v.as_value.result) listed shown.limited v.as_value.ensures in
-                subst (Shows _ before held start w file) (ap (with_answer w file (next r) line) (sym is) ∙ short w file r shown.by)
-                (shows-picked parsed _ before held start w file (next r) _ (parsed_shown before held w file r shown)
-                (picked-over _ v.pick.new.self tape _ v.in_ok-pick-in-Ok.ensures)),
-          )
-      | in-Err+in_ok-reject-in-Err v ↦
-          let rejected = v.in_ok-reject-in-Err.ensures sound in
-          rw (v.self-is, v.err-is, c.replace.ensures.after) (
-            rejected.0,
-            λ before held w file r shown.
-                let kept = subst (IsReserved old.wanted.now.longest old.buffers) (sym c.replace-kept.ensures.value) shown.reserved in
-                let fits : length line ≤ old.wanted.now.longest = c.if-line-self.false in
-                let is = rejected-line w file r line old.buffers.limit _ _ v.in-Err.e nodes buffers.index.listed v.in-Err.is parse
-                ((c.refill_tape-answer.ensures.reserved old.wanted.now.longest kept).1 fits) shown.limited
-                (omega (arith, fits, ap (λ v. v.longest) shown.by)) (sym c.is_blank.ensures ∙ c.if-is_blank.false) in
-                subst (Shows _ before held (g.E.Write.contents v.reject-in-Err.new.err.inner) w file) is
-                (shows-rejected g.E.Write.contents parsed _ c.args.err.now v.reject-in-Err.new.err before held w file (next r) line
-                (Some v.in-Err.e)
-                (named-as parsed line before held _ w file (next r) (Some v.in-Err.e) original (parsed_shown before held w file r shown))
-                (parsed_shown before held w file r shown)
-                (rejected-over g.E.Write.contents _ v.reject-in-Err.new.self tape c.args.err.now v.reject-in-Err.new.err _ rejected.1)),
-          )
-    ]
+    weaker c.take_text.result c.take_text.new.err.failed _ _ _ _ (λ takes before held w file r shown.
+    subst (Shows c.take_text.new.self before held end w file) (short w file r shown.by)
+    (takes before held w file (next r) (shows-next old c.saturating_add-self.result before held start w file r
+    c.saturating_add-self.ensures shown))) (λ begins before held w file r shown.
+    subst (λ s. Begins held end s.rejections) (short w file r shown.by)
+    (begins before held w file (next r) (shows-next old c.saturating_add-self.result before held start w file r
+    c.saturating_add-self.ensures shown))) (c.take_text.ensures sound)

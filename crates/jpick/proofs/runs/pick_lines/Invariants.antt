@@ -1,6 +1,6 @@
 use Rattle.std.proofs.Common.{◌≡◌, false}
 use Rattle.jpick.proofs.Picking.{IsAt}
-use Rattle.jpick.proofs.runs.run.Given as goal
+use Rattle.jpick.proofs.runs.pick_lines.Given as goal
 
 abbrev pub invariant-loop : goal.invariant-loop
 invariant-loop g l = record {
