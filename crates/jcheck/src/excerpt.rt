@@ -26,12 +26,7 @@ pub struct Style {
 /// UTF-8 as U+FFFD.
 ///
 /// Returns an error if an allocation fails.
-pub fn excerpt(
-    alloc: Global,
-    input: &[u8],
-    byte: usize,
-    style: Style,
-) -> Result<String, AllocError>
+pub fn excerpt(alloc: Global, input: &[u8], byte: usize, style: Style) -> Result<String, AllocError>
     ensures { IfOk result (λ text. string_bytes text ≡ excerpt style input.now byte) }
 {
     let Style { width, is_colored } = style;

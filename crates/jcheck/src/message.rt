@@ -60,7 +60,11 @@ impl fmt::Display for Opening {
     ghost output = { λ opening. Some (opening_text opening) };
 
     fn fmt<W: fmt::Write>(&self, f: &mut fmt::Formatter<W>) -> fmt::Result {
-        let Opening { opened, line, column } = *self;
+        let Opening {
+            opened,
+            line,
+            column,
+        } = *self;
         write!(f, "the {opened} that begins at {line}:{column}")
     }
 }

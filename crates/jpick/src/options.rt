@@ -317,9 +317,9 @@ fn command<'a>(alloc: Global) -> Result<Command<'a>, Error> {
         .action(ArgAction::Append)
         .num_args(0..)
         .help(FILE_HELP);
-    let command = Command::new(alloc, "jpick")
-        .version("0.2.0")
-        .about("Prints the values at JSON Pointers in each line of JSON Lines, or in documents");
+    let command = Command::new(alloc, "jpick").version("0.2.0").about(
+        "Prints the values at JSON Pointers in each line of JSON Lines, or in documents",
+    );
     let command = with_rows(alloc, command)?;
     let command = with_lines(alloc, command)?;
     Ok(command.arg(query)?.arg(files)?)
@@ -327,17 +327,19 @@ fn command<'a>(alloc: Global) -> Result<Command<'a>, Error> {
 
 // The options that say what a row is.
 fn with_rows<'a>(alloc: Global, command: Command<'a>) -> Result<Command<'a>, Error> {
-    Ok(command
-        .arg(repeated(alloc, "and", "QUERY", AND_HELP))?
-        .arg(flag(alloc, "raw", RAW_HELP).short('r'))?
-        .arg(
-            flag(alloc, "tsv", TSV_HELP)
-                .conflicts_with("csv")?
-                .conflicts_with("json")?,
-        )?
-        .arg(flag(alloc, "csv", CSV_HELP).conflicts_with("json")?)?
-        .arg(flag(alloc, "json", JSON_HELP))?
-        .arg(flag(alloc, "header", HEADER_HELP).conflicts_with("json")?)?)
+    Ok(
+        command
+            .arg(repeated(alloc, "and", "QUERY", AND_HELP))?
+            .arg(flag(alloc, "raw", RAW_HELP).short('r'))?
+            .arg(
+                flag(alloc, "tsv", TSV_HELP)
+                    .conflicts_with("csv")?
+                    .conflicts_with("json")?,
+            )?
+            .arg(flag(alloc, "csv", CSV_HELP).conflicts_with("json")?)?
+            .arg(flag(alloc, "json", JSON_HELP))?
+            .arg(flag(alloc, "header", HEADER_HELP).conflicts_with("json")?)?,
+    )
 }
 
 // The options that say of what there are rows.
@@ -352,13 +354,15 @@ fn with_lines<'a>(alloc: Global, command: Command<'a>) -> Result<Command<'a>, Er
         .value_name("N")
         .value_parser(value_parser!(usize))
         .help(DEPTH_HELP);
-    Ok(command
-        .arg(flag(alloc, "document", DOCUMENT_HELP).short('d'))?
-        .arg(flag(alloc, "all", ALL_HELP))?
-        .arg(repeated(alloc, "where", "POINTER=JSON", WHERE_HELP))?
-        .arg(repeated(alloc, "where-not", "POINTER=JSON", WHERE_NOT_HELP))?
-        .arg(repeated(alloc, "exists", "POINTER", EXISTS_HELP))?
-        .arg(flag(alloc, "quiet", QUIET_HELP).short('q'))?
-        .arg(limit)?
-        .arg(depth)?)
+    Ok(
+        command
+            .arg(flag(alloc, "document", DOCUMENT_HELP).short('d'))?
+            .arg(flag(alloc, "all", ALL_HELP))?
+            .arg(repeated(alloc, "where", "POINTER=JSON", WHERE_HELP))?
+            .arg(repeated(alloc, "where-not", "POINTER=JSON", WHERE_NOT_HELP))?
+            .arg(repeated(alloc, "exists", "POINTER", EXISTS_HELP))?
+            .arg(flag(alloc, "quiet", QUIET_HELP).short('q'))?
+            .arg(limit)?
+            .arg(depth)?,
+    )
 }

@@ -131,8 +131,9 @@ impl<'k, A: Allocator + Copy> Lines<'k, A> {
             self.old.original.items error)) result }
     {
         let (longest, line) = (self.wanted.longest, self.original.as_slice());
-        let words = rejection_words(longest, self.number, line, error)
-            .map_err(|_| Failure::Resources)?;
+        let words = rejection_words(longest, self.number, line, error).map_err(
+            |_| Failure::Resources,
+        )?;
         put_name(err, self.file, words.as_slice())?;
         self.all_taken = false;
         self.add(self.wanted.rejected(), 1)?;
@@ -194,7 +195,10 @@ impl<'k, A: Allocator + Copy> Lines<'k, A> {
     {
         let (mark, values) = (self.wanted.others_mark(), self.wanted.values);
         let mut words = Words::new();
-        writeln!(words, "lines under {mark}: {count} (--values for more than {values} values; a row has at most 1024 bytes)")?;
+        writeln!(
+            words,
+            "lines under {mark}: {count} (--values for more than {values} values; a row has at most 1024 bytes)"
+        )?;
         Ok(words)
     }
 
