@@ -94,7 +94,8 @@ module _ {A : Type 0} (w : Wanted) (file : List ℕ) (picker : Picker A) {c : Cu
 
   pub line-begun : (d : Cut) {lines : List ℕ} {after now : Option (List ℕ)}
       → (at : IsAt w file picker c line first left held holds named names) → Moves c d line lines left after Line
-      → Begins named now (with_line w file (picked w file at.done) lines).rejections → HasBegun (picked_lines w file) first after held holds named now
+      → Begins named now (with_line w file (picked w file at.done) lines).rejections
+      → HasBegun (picked_lines w file) first after held holds named now
   line-begun d {lines} {after} {now} at moves begun =
       let next = at-line at.read moves in
       let done = at.done ++ next.0 ∷ [] in
@@ -107,7 +108,8 @@ module _ {A : Type 0} (w : Wanted) (file : List ℕ) (picker : Picker A) {c : Cu
   pub block-stopped : w.is_document ≡ false → (d : Cut) {lines : List ℕ} {after now : Option (List ℕ)}
       → (at : IsAt w file picker c line first left held holds named names) → Moves c d line lines left after Block
       → Begins holds now picker.rows.items
-      → (begun : HasBegun (picked_lines w file) first after held now named names) × IsTaken w file (picked_lines w file) begun.input after picker.all_taken
+      → (begun : HasBegun (picked_lines w file) first after held now named names)
+          × IsTaken w file (picked_lines w file) begun.input after picker.all_taken
   block-stopped lined d {lines} {after} {now} at moves begun =
       let block = at-block at.read moves in
       let h = first-but-last block.0 block.1 in
@@ -143,7 +145,8 @@ module _ {A : Type 0} (w : Wanted) (file : List ℕ) (picker : Picker A) {c : Cu
 
   pub end-begun : (d : Cut) {lines : List ℕ} {after now : Option (List ℕ)}
       → (at : IsAt w file picker c line first left held holds named names) → Moves c d line lines left after End
-      → Begins named now (with_line w file (picked w file at.done) lines).rejections → HasBegun (picked_lines w file) first after held holds named now
+      → Begins named now (with_line w file (picked w file at.done) lines).rejections
+      → HasBegun (picked_lines w file) first after held holds named now
   end-begun d {lines} {after} {now} at moves begun =
       let end = at-end d at.read moves in
       let more = end.last ∷ [] in
@@ -158,7 +161,8 @@ module _ {A : Type 0} (w : Wanted) (file : List ℕ) (picker : Picker A) {c : Cu
 
 pub done-stopped : {A : Type 0} (w : Wanted) (file : List ℕ) (picker : Picker A) {first left held holds named names now : Option (List ℕ)}
     → IsDone w file picker first left held holds named names → Begins holds now picker.rows.items
-    → (begun : HasBegun (picked_lines w file) first left held now named names) × IsTaken w file (picked_lines w file) begun.input left picker.all_taken
+    → (begun : HasBegun (picked_lines w file) first left held now named names)
+        × IsTaken w file (picked_lines w file) begun.input left picker.all_taken
 done-stopped w file picker {first} {left} {held} {holds} {named} {names} {now} at begun = (
   record {
     input = at.input;

@@ -11,7 +11,7 @@ use Rattle.simd_json_parts.specs.Document.{Document}
 use Rattle.simd_json_parts.specs.Listing.{listing}
 use Rattle.simd_json_parts.specs.Nodes.{Item}
 use Rattle.simd_json_parts.specs.declared.error.Error.{Error}
-use Rattle.log_report.specs.Report.{Report, next, with_answer, with_line, with_rejection}
+use Rattle.log_report.specs.Report.{Report, next, with_counted_answer, with_counted_line, with_counted_rejection}
 use Rattle.log_report.specs.declared.rows.Wanted.{Wanted}
 use Rattle.log_report.proofs.Shown.{short-line}
 
@@ -29,9 +29,9 @@ answered-error b limit capacity e nodes listed p has is =
 pub rejected-line : (w : Wanted) (file : List ℕ) (r : Report) (line : List ℕ) (limit capacity : ℕ) (answer : Result Unit Error) (e : Error)
     (nodes : List Item) (listed : List ℕ) → answer ≡ Err e → IsParse line limit capacity (result_err answer) nodes listed
     → HasMemory (result_err answer) → limit ≡ default_max_depth → length line ≤ w.longest → is_blank line ≡ false
-    → with_rejection w file (next r) line (Some e) ≡ with_line w file r line
+    → with_counted_rejection w file (next r) line (Some e) ≡ with_counted_line w file r line
 rejected-line w file r line limit capacity answer e nodes listed is parse has limited fits some =
-    ap (with_answer w file (next r) line) (sym (answered-error line limit capacity e nodes listed
+    ap (with_counted_answer w file (next r) line) (sym (answered-error line limit capacity e nodes listed
     (subst (λ a. IsParse line limit capacity (result_err a) nodes listed) is parse)
     (subst (λ a. HasMemory (result_err a)) is has) limited))
     ∙ short-line w file r line false fits some

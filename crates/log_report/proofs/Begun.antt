@@ -7,7 +7,7 @@ use Rattle.simd_json_check.specs.Capacities.{default_max_depth}
 use Rattle.simd_json_parts.specs.Answer.{answer}
 use Rattle.simd_json_parts.specs.Document.{Document}
 use Rattle.simd_json_parts.specs.declared.error.Error.{Error}
-use Rattle.log_report.specs.Report.{Report, next, rejection_line, with_answer, with_line, with_rejection}
+use Rattle.log_report.specs.Report.{Report, next, rejection_line, with_counted_answer, with_counted_line, with_counted_rejection}
 use Rattle.log_report.specs.declared.rows.Wanted.{Wanted}
 
 record Grows (r s : Report) : Type 0 where
@@ -28,19 +28,21 @@ grows-if true r s t g h = g
 grows-if false r s t g h = h
 
 grows-answer : (w : Wanted) (file : List ℕ) (r : Report) (line : List ℕ) (a : Result Document Error)
-    → Grows r (with_answer w file r line a)
+    → Grows r (with_counted_answer w file r line a)
 grows-answer w file r line (Ok d) = grows-none r _ refl
 grows-answer w file r line (Err e) = record { more = rejection_line w file r.number line (Some e); all = refl }
 
-grows-line : (w : Wanted) (file : List ℕ) (r : Report) (line : List ℕ) → Grows r (with_line w file r line)
+grows-line : (w : Wanted) (file : List ℕ) (r : Report) (line : List ℕ) → Grows r (with_counted_line w file r line)
 grows-line w file r line =
     let n = next r in
-    let answered = with_answer w file n line (answer line default_max_depth) in
+    let answered = with_counted_answer w file n line (answer line default_max_depth) in
     let taken : Grows n (cond (is_blank line) n answered) =
     grows-if (is_blank line) n n answered (grows-none n n refl) (grows-answer w file n line (answer line default_max_depth)) in
-    let long : Grows n (with_rejection w file n line None) = record { more = rejection_line w file n.number line None; all = refl } in
-    grows-then r n _ (grows-none r n refl) (grows-if (nat_lt w.longest (length line)) n (with_rejection w file n line None) _ long taken)
+    let long : Grows n (with_counted_rejection w file n line None) =
+        record { more = rejection_line w file n.number line None; all = refl } in
+    grows-then r n _ (grows-none r n refl) (grows-if (nat_lt w.longest (length line)) n
+        (with_counted_rejection w file n line None) _ long taken)
 
 pub rejections-grow : (w : Wanted) (file : List ℕ) (r : Report) (line : List ℕ)
-    → (more : List ℕ) × (r.rejections ++ more ≡ (with_line w file r line).rejections)
+    → (more : List ℕ) × (r.rejections ++ more ≡ (with_counted_line w file r line).rejections)
 rejections-grow w file r line = let g = grows-line w file r line in (g.more, g.all)

@@ -3,7 +3,7 @@ use Rattle.std.proofs.Common.{◌≡◌, ◌∙◌, refl, ap, sym, subst, arith,
 use Rattle.std.proofs.Common.{Bool, true, false, ◌||◌, Option}
 use Rattle.jsonl.specs.Ports.{Watched}
 use Rattle.log_report.specs.Report.{Part, Report, report_of, with_part, with_parts}
-use Rattle.log_report.specs.Runs.{AreRead, IsRead, Shows, has_failed}
+use Rattle.log_report.specs.Runs.{AreRead, IsInputRead, ShowsReport, has_failed}
 use Rattle.log_report.specs.declared.lines.Lines.{Lines}
 use Rattle.log_report.specs.declared.rows.Wanted.{Wanted}
 use Rattle.log_report.specs.declared.runs.Input.{Input}
@@ -57,12 +57,12 @@ pub record HasCounted {A R E : Type 0} (remaining : R → Option (List ℕ)) (na
   pub read : AreRead remaining true inputs reads parts
   pub each : length parts ≡ count
   pub last : List ℕ
-  pub shown : Shows lines (naming rejections.inner) (naming rejects.inner) w last (report_of w parts)
+  pub shown : ShowsReport lines (naming rejections.inner) (naming rejects.inner) w last (report_of w parts)
 
 module _ {R : Type 0} (remaining : R → Option (List ℕ)) where
   -- one more was
   pub read-more : (all : Bool) (is js : List (Input R)) (parts : List Part) (k : ℕ) (part : Part) (d new : Input R)
-      → AreRead remaining all is js parts → length parts ≡ k → k < length js → IsRead remaining all (get_or js k d) new part
+      → AreRead remaining all is js parts → length parts ≡ k → k < length js → IsInputRead remaining all (get_or js k d) new part
       → AreRead remaining all is (set js k new) (parts ++ part ∷ [])
   read-more all is [] [] k part d new same len high read = absurd (omega (arith, high))
   read-more all is (j ∷ js) [] zero part d new same len high read =

@@ -7,8 +7,8 @@ use Rattle.simd_json_check.specs.Capacities.{default_max_depth}
 use Rattle.simd_json_parts.specs.Answer.{answer}
 use Rattle.simd_json_parts.specs.declared.error.Error.{Error}
 use Rattle.simd_json_print.proofs.Texts.{appends-then}
-use Rattle.log_report.specs.Report.{Report, next, rejection_line, with_answer, with_line, with_rejection}
-use Rattle.log_report.specs.Runs.{CountsMore, IsRejection, Shows, counts_of}
+use Rattle.log_report.specs.Report.{Report, next, rejection_line, with_counted_answer, with_counted_line, with_counted_rejection}
+use Rattle.log_report.specs.Runs.{CountsMore, CountsRejection, ShowsReport, counts_of}
 use Rattle.log_report.specs.Table.{counted, rejected}
 use Rattle.jsonl.specs.Rejections.{one_more}
 use Rattle.jsonl.specs.Ports.{Watched}
@@ -24,18 +24,18 @@ use Rattle.jsonl.specs.Lines.{kept}
 use Rattle.log_report.proofs.Begun.{rejections-grow}
 
 abbrev rest_of : Wanted → List ℕ → Report → List ℕ → Bool → Report
-rest_of w file r line blank = cond blank (next r) (with_answer w file (next r) line (answer line default_max_depth))
+rest_of w file r line blank = cond blank (next r) (with_counted_answer w file (next r) line (answer line default_max_depth))
 
 pub long-line : (w : Wanted) (file : List ℕ) (r : Report) (line : List ℕ) → w.longest < length line
-    → with_rejection w file (next r) line None ≡ with_line w file r line
+    → with_counted_rejection w file (next r) line None ≡ with_counted_line w file r line
 long-line w file r line more =
-    sym (ap (λ t. cond t (with_rejection w file (next r) line None) (rest_of w file r line (is_blank line)))
+    sym (ap (λ t. cond t (with_counted_rejection w file (next r) line None) (rest_of w file r line (is_blank line)))
     (lt-ltb w.longest (length line) more))
 
 pub short-line : (w : Wanted) (file : List ℕ) (r : Report) (line : List ℕ) (blank : Bool) → length line ≤ w.longest → is_blank line ≡ blank
-    → rest_of w file r line blank ≡ with_line w file r line
+    → rest_of w file r line blank ≡ with_counted_line w file r line
 short-line w file r line blank fits is =
-    sym (ap (λ t. cond t (with_rejection w file (next r) line None) (rest_of w file r line (is_blank line)))
+    sym (ap (λ t. cond t (with_counted_rejection w file (next r) line None) (rest_of w file r line (is_blank line)))
     (le-ltb w.longest (length line) fits)
     ∙ ap (rest_of w file r line) is)
 
@@ -44,7 +44,7 @@ pub shows-next : {A : Type 0} (old new : Lines A) (number : ℕ) (held holds : O
     → number ≡ one_more old.number
     → new ≡ record old { number = number; original = new.original; tape = new.tape; buffers = new.buffers }
     → new.buffers.limit ≡ old.buffers.limit → IsReserved old.wanted.now.longest new.buffers new.tape
-    → Shows old held holds w file r → Shows new held holds w file (next r)
+    → ShowsReport old held holds w file r → ShowsReport new held holds w file (next r)
 shows-next old new number held holds w file r is same limit reserved shown = record {
   by = ap (λ p. p.wanted.now) same ∙ shown.by;
   of = ap (λ p. p.file.now) same ∙ shown.of;
@@ -57,8 +57,8 @@ shows-next old new number held holds w file r is same limit reserved shown = rec
 }
 
 pub shows-added : {A : Type 0} (old new : Lines A) (held holds : Option (List ℕ)) (w : Wanted) (file : List ℕ) (r : Report) (text : List ℕ)
-    (more : ℕ) → Shows old held holds w file r → CountsMore old new text more
-    → Shows new held holds w file (record r { counts = counted w.is_tsv w.values more text r.counts })
+    (more : ℕ) → ShowsReport old held holds w file r → CountsMore old new text more
+    → ShowsReport new held holds w file (record r { counts = counted w.is_tsv w.values more text r.counts })
 shows-added old new held holds w file r text more shown h = record {
   by = ap (λ l. l.wanted.now) h.same ∙ shown.by;
   of = ap (λ l. l.file.now) h.same ∙ shown.of;
@@ -77,7 +77,7 @@ added-over {A} old new tape text more h = record
     { counts = h.counts; same = ap {A = Lines A} (λ (l : Lines A). record l { tape = tape }) h.same }
 
 pub named-as : {A : Type 0} (old : Lines A) (line : List ℕ) (held holds : Option (List ℕ)) (w : Wanted) (file : List ℕ) (r : Report)
-    (error : Option Error) → old.original.items ≡ line → Shows old held holds w file r
+    (error : Option Error) → old.original.items ≡ line → ShowsReport old held holds w file r
     → rejection_line old.wanted.now old.file.now old.number old.original.items error ≡ rejection_line w file r.number line error
 named-as old line held holds w file r error is shown =
     ap (λ v. rejection_line v old.file.now old.number old.original.items error) shown.by
@@ -88,8 +88,8 @@ named-as old line held holds w file r error is shown =
 pub shows-rejected : {A E : Type 0} (naming : E → Option (List ℕ)) (old new : Lines A) (rejections rejects : Watched E)
     (held : Option (List ℕ)) (w : Wanted) (file : List ℕ) (r : Report) (line : List ℕ) (error : Option Error)
     → rejection_line old.wanted.now old.file.now old.number old.original.items error ≡ rejection_line w file r.number line error
-    → Shows old held (naming rejections.inner) w file r → IsRejection naming old new rejections rejects error
-    → Shows new held (naming rejects.inner) w file (with_rejection w file r line error)
+    → ShowsReport old held (naming rejections.inner) w file r → CountsRejection naming old new rejections rejects error
+    → ShowsReport new held (naming rejects.inner) w file (with_counted_rejection w file r line error)
 shows-rejected naming old new rejections rejects held w file r line error is shown h = record {
   by = ap (λ l. l.wanted.now) h.same ∙ shown.by;
   of = ap (λ l. l.file.now) h.same ∙ shown.of;
@@ -106,7 +106,8 @@ shows-rejected naming old new rejections rejects held w file r line error is sho
 
 pub rejected-over : {A E : Type 0} (naming : E → Option (List ℕ)) (old new : Lines A) (tape : Listed) (rejections rejects : Watched E)
     (error : Option Error)
-    → IsRejection naming old new rejections rejects error → IsRejection naming (record old { tape = tape }) (record new { tape = tape })
+    → CountsRejection naming old new rejections rejects error
+    → CountsRejection naming (record old { tape = tape }) (record new { tape = tape })
     rejections rejects error
 rejected-over {A} naming old new tape rejections rejects error h = record
     { counts = h.counts; same = ap {A = Lines A} (λ (l : Lines A). record l { tape = tape }) h.same; named = h.named }
@@ -120,21 +121,21 @@ reserved-as len b c t u is same reserved = subst (λ x. IsReserved len x u) (sym
 pub begins-rejected : {A : Type 0} (old : Lines A) (held named names : Option (List ℕ)) (w : Wanted) (file : List ℕ) (r : Report)
     (line : List ℕ) (error : Option Error)
     → rejection_line old.wanted.now old.file.now old.number old.original.items error ≡ rejection_line w file r.number line error
-    → Shows old held named w file r
+    → ShowsReport old held named w file r
     → Begins named names (rejection_line old.wanted.now old.file.now old.number old.original.items error)
-    → Begins held names (with_rejection w file r line error).rejections
+    → Begins held names (with_counted_rejection w file r line error).rejections
 begins-rejected old held named names w file r line error is shown begun =
     begins-then held named names r.rejections _ shown.rejections (subst (Begins named names) is begun)
 
 -- of any line, before its name
 pub begins-line : {A : Type 0} (lines : Lines A) (held holds : Option (List ℕ)) (w : Wanted) (file : List ℕ) (r : Report) (line : List ℕ)
-    → Shows lines held holds w file r → Begins held holds (with_line w file r line).rejections
+    → ShowsReport lines held holds w file r → Begins held holds (with_counted_line w file r line).rejections
 begins-line lines held holds w file r line shown =
-    begins-grown (with_line w file) (λ r. r.rejections) (rejections-grow w file) held holds r line
+    begins-grown (with_counted_line w file) (λ r. r.rejections) (rejections-grow w file) held holds r line
     (begins-all held holds r.rejections shown.rejections)
 
 -- of a line that is too long the first bytes are enough
 pub cut-line : (w : Wanted) (file : List ℕ) (r : Report) (line : List ℕ)
-    → with_line w file r (kept w.longest line) ≡ with_line w file r line
-cut-line w file r line = kept-is (with_line w file r) w.longest line
+    → with_counted_line w file r (kept w.longest line) ≡ with_counted_line w file r line
+cut-line w file r line = kept-is (with_counted_line w file r) w.longest line
     (λ long longer. sym (long-line w file r (kept w.longest line) longer) ∙ long-line w file r line long)

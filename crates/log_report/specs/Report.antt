@@ -25,8 +25,8 @@ pub record Report : Type 0 where
   pub counts : List Count
   pub rejections : List ℕ
 
-abbrev pub no_line : Wanted → Report
-no_line w = record { number = 0; all_taken = true; counts = none_counted w.is_tsv; rejections = [] }
+abbrev pub no_report : Wanted → Report
+no_report w = record { number = 0; all_taken = true; counts = none_counted w.is_tsv; rejections = [] }
 
 abbrev pub next : Report → Report
 next r = record r { number = one_more r.number }
@@ -34,22 +34,22 @@ next r = record r { number = one_more r.number }
 abbrev pub with_text : Wanted → Report → List ℕ → Report
 with_text w r t = record r { counts = counted w.is_tsv w.values 1 t r.counts }
 
-abbrev pub with_rejection : Wanted → List ℕ → Report → List ℕ → Option Error → Report
-with_rejection w file r line error =
+abbrev pub with_counted_rejection : Wanted → List ℕ → Report → List ℕ → Option Error → Report
+with_counted_rejection w file r line error =
     record (with_text w r (rejected w.is_tsv))
     { all_taken = false; rejections = r.rejections ++ rejection_line w file r.number line error }
 
 -- by its row
-abbrev pub with_answer : Wanted → List ℕ → Report → List ℕ → Result Document Error → Report
-with_answer w file r line (Ok d) = with_text w r (row_label w d)
-with_answer w file r line (Err e) = with_rejection w file r line (Some e)
+abbrev pub with_counted_answer : Wanted → List ℕ → Report → List ℕ → Result Document Error → Report
+with_counted_answer w file r line (Ok d) = with_text w r (row_label w d)
+with_counted_answer w file r line (Err e) = with_counted_rejection w file r line (Some e)
 
 -- A line is rejected if it is longer than this or no JSON text. One that is empty, or whitespace alone, counts under nothing.
-abbrev pub with_line : Wanted → List ℕ → Report → List ℕ → Report
-with_line w file r line =
-    if nat_lt w.longest (length line) then with_rejection w file (next r) line None
+abbrev pub with_counted_line : Wanted → List ℕ → Report → List ℕ → Report
+with_counted_line w file r line =
+    if nat_lt w.longest (length line) then with_counted_rejection w file (next r) line None
     else if is_blank line then next r
-    else with_answer w file (next r) line (answer line default_max_depth)
+    else with_counted_answer w file (next r) line (answer line default_max_depth)
 
 -- an input: the name of its file, and its bytes
 abbrev pub Part : Type 0
@@ -57,14 +57,14 @@ Part = List ℕ × List ℕ
 
 -- of the lines of one more input: of the pieces between its line feeds, whose numbers begin again
 abbrev pub with_part : Wanted → Report → Part → Report
-with_part w r part = folded (with_line w part.0) (record r { number = 0 }) (pieces part.1)
+with_part w r part = folded (with_counted_line w part.0) (record r { number = 0 }) (pieces part.1)
 
 abbrev pub with_parts : Wanted → Report → List Part → Report
 with_parts w r [] = r
 with_parts w r (part ∷ parts) = with_parts w (with_part w r part) parts
 
 abbrev pub report_of : Wanted → List Part → Report
-report_of w parts = with_parts w (no_line w) parts
+report_of w parts = with_parts w (no_report w) parts
 
 -- ---- the notice, before the report
 

@@ -10,7 +10,7 @@ use Rattle.simd_json_check.specs.Capacities.{default_max_depth}
 use Rattle.simd_json.specs.Reserved.{IsReserved}
 use Rattle.simd_json_parts.specs.Document.{Document}
 use Rattle.simd_json_parts.specs.declared.error.Error.{Error}
-use Rattle.log_report.specs.Report.{Part, Report, no_line, notice, rejection_line, report_of, said, with_line, with_part}
+use Rattle.log_report.specs.Report.{Part, Report, no_report, notice, rejection_line, report_of, said, with_counted_line, with_part}
 use Rattle.log_report.specs.Rows.{row_label}
 use Rattle.log_report.specs.Table.{Count, counted, rejected, report_text}
 use Rattle.log_report.specs.declared.lines.Lines.{Lines}
@@ -18,7 +18,7 @@ use Rattle.log_report.specs.declared.rows.Wanted.{Wanted}
 use Rattle.log_report.specs.declared.runs.Input.{Input}
 
 -- Of an input before and after a run, of whose reader this is known: it has this file, and these bytes were read, to the end if all were.
-pub record IsRead {R : Type 0} (remaining : R → Option (List ℕ)) (all : Bool) (i j : Input R) (part : Part) : Type 0 where
+pub record IsInputRead {R : Type 0} (remaining : R → Option (List ℕ)) (all : Bool) (i j : Input R) (part : Part) : Type 0 where
   pub file : part.0 ≡ i.file.now
   pub bytes : Consumes (remaining i.reader.inner) (remaining j.reader.inner) part.1
   pub end : all ≡ true → IsAtEnd (remaining j.reader.inner)
@@ -26,7 +26,7 @@ pub record IsRead {R : Type 0} (remaining : R → Option (List ℕ)) (all : Bool
 -- these parts were read of the first inputs, and the others were not touched
 abbrev pub AreRead : {R : Type 0} → (R → Option (List ℕ)) → Bool → List (Input R) → List (Input R) → List Part → Type 0
 AreRead remaining all is js [] = is ≡ js
-AreRead remaining all (i ∷ is) (j ∷ js) (part ∷ parts) = IsRead remaining all i j part × AreRead remaining all is js parts
+AreRead remaining all (i ∷ is) (j ∷ js) (part ∷ parts) = IsInputRead remaining all i j part × AreRead remaining all is js parts
 AreRead remaining all is js parts = ⊥
 
 -- each of the inputs was read to its end
@@ -51,7 +51,7 @@ pub record HasReported {R : Type 0} (remaining : R → Option (List ℕ)) (w : W
 -- Of such a run that ended in this error, and whether the report's writer failed: of what was read, a beginning of the report was
 -- written, and a beginning of its rejected lines named. No byte of the report was, unless its writer failed; then all was read.
 -- That its reader has closed it is such a failure, and says whether no line was rejected.
-pub record HasBegun {R : Type 0} (remaining : R → Option (List ℕ)) (w : Wanted) (inputs reads : List (Input R))
+pub record HasBegunReport {R : Type 0} (remaining : R → Option (List ℕ)) (w : Wanted) (inputs reads : List (Input R))
     (held holds named names : Option (List ℕ)) (failed : Bool) (failure : Failure) : Type 0 where
   pub parts : List Part
   pub read : AreRead remaining false inputs reads parts
@@ -68,7 +68,7 @@ pub record Reports {R W E : Type 0} (remaining : R → Option (List ℕ)) (writt
     (result : Result Bool Failure) : Type 0 where
   pub run : OnOk result (HasReported remaining w inputs reads (written report.inner) (written reports.inner)
       (naming rejections.inner) (naming rejects.inner) result)
-  pub begun : IfErr result (HasBegun remaining w inputs reads (written report.inner) (written reports.inner)
+  pub begun : IfErr result (HasBegunReport remaining w inputs reads (written report.inner) (written reports.inner)
       (naming rejections.inner) (naming rejects.inner) reports.failed)
   pub read : (result ≡ Err Read) ↔ (has_failed reads ≡ true)
   pub write : IsErrAnd result (λ failure. is_write failure ≡ true) ↔ (reports.failed ≡ true)
@@ -123,7 +123,7 @@ BeginsNotice naming lines rejections rejects =
     Begins (naming rejections.inner) (naming rejects.inner) (notice lines.wanted.now (counts_of lines))
 
 -- of a writer of what is known: the last line counts as rejected, and is named
-pub record IsRejection {A E : Type 0} (naming : E → Option (List ℕ)) (old new : Lines A) (rejections rejects : Watched E)
+pub record CountsRejection {A E : Type 0} (naming : E → Option (List ℕ)) (old new : Lines A) (rejections rejects : Watched E)
     (error : Option Error) : Type 0 where
   pub counts : counts_of new ≡ counted old.wanted.now.is_tsv old.wanted.now.values 1 (rejected old.wanted.now.is_tsv) (counts_of old)
   pub same : new ≡ record old { all_taken = false; counts = new.counts }
@@ -131,7 +131,8 @@ pub record IsRejection {A E : Type 0} (naming : E → Option (List ℕ)) (old ne
       (rejection_line old.wanted.now old.file.now old.number old.original.items error)
 
 -- Since a writer held these bytes: the counts are those of this report, and the writer holds the lines that name rejected ones, too.
-pub record Shows {A : Type 0} (lines : Lines A) (held holds : Option (List ℕ)) (w : Wanted) (file : List ℕ) (r : Report) : Type 0 where
+pub record ShowsReport {A : Type 0} (lines : Lines A) (held holds : Option (List ℕ)) (w : Wanted) (file : List ℕ)
+    (r : Report) : Type 0 where
   pub by : lines.wanted.now ≡ w
   pub of : lines.file.now ≡ file
   pub limited : lines.buffers.limit ≡ default_max_depth
@@ -142,20 +143,22 @@ pub record Shows {A : Type 0} (lines : Lines A) (held holds : Option (List ℕ))
   pub rejections : Appends held holds r.rejections
 
 -- before any line
-abbrev pub IsStart : {A : Type 0} → Wanted → Lines A → Type 0
-IsStart w lines = (held : Option (List ℕ)) → Shows lines held held w [] (no_line w)
+abbrev pub HasNoLine : {A : Type 0} → Wanted → Lines A → Type 0
+HasNoLine w lines = (held : Option (List ℕ)) → ShowsReport lines held held w [] (no_report w)
 
 -- any report that was shown has become that with this line
-abbrev pub TakesLine : {A E : Type 0} → (E → Option (List ℕ)) → Lines A → Lines A → Watched E → Watched E → List ℕ → Type 0
-TakesLine naming old new rejections rejects line =
+abbrev pub CountsLine : {A E : Type 0} → (E → Option (List ℕ)) → Lines A → Lines A → Watched E → Watched E → List ℕ → Type 0
+CountsLine naming old new rejections rejects line =
     (held : Option (List ℕ)) (w : Wanted) (file : List ℕ) (r : Report)
-    → Shows old held (naming rejections.inner) w file r → Shows new held (naming rejects.inner) w file (with_line w file r line)
+    → ShowsReport old held (naming rejections.inner) w file r
+    → ShowsReport new held (naming rejects.inner) w file (with_counted_line w file r line)
 
 -- of a call that fails: of any report that was shown, with this line, a beginning of the rejections was written
-abbrev pub BeginsLine : {A E : Type 0} → (E → Option (List ℕ)) → Lines A → Watched E → Watched E → List ℕ → Type 0
-BeginsLine naming old rejections rejects line =
+abbrev pub BeginsCountedLine : {A E : Type 0} → (E → Option (List ℕ)) → Lines A → Watched E → Watched E → List ℕ → Type 0
+BeginsCountedLine naming old rejections rejects line =
     (held : Option (List ℕ)) (w : Wanted) (file : List ℕ) (r : Report)
-    → Shows old held (naming rejections.inner) w file r → Begins held (naming rejects.inner) (with_line w file r line).rejections
+    → ShowsReport old held (naming rejections.inner) w file r
+    → Begins held (naming rejects.inner) (with_counted_line w file r line).rejections
 
 -- what a call on a reader and a writer that had not failed ends in, by whether one of them has
 abbrev pub input_fault : Bool → Bool → Failure
@@ -174,8 +177,8 @@ pub record TakesInput {A R E : Type 0} (remaining : R → Option (List ℕ)) (na
   pub read : Consumes (remaining reader.inner) (remaining reads.inner) input
   pub end : IsAtEnd (remaining reads.inner)
   pub shown : (held : Option (List ℕ)) (w : Wanted) (last : List ℕ) (r : Report)
-      → Shows old held (naming rejections.inner) w last r
-      → Shows new held (naming rejects.inner) w file (with_part w r (file, input))
+      → ShowsReport old held (naming rejections.inner) w last r
+      → ShowsReport new held (naming rejects.inner) w file (with_part w r (file, input))
 
 -- of a call that fails: of any report that was shown, with the lines of what was read, a beginning of the rejections was written
 pub record BeginsInput {A R E : Type 0} (remaining : R → Option (List ℕ)) (naming : E → Option (List ℕ)) (old : Lines A)
@@ -183,5 +186,5 @@ pub record BeginsInput {A R E : Type 0} (remaining : R → Option (List ℕ)) (n
   pub input : List ℕ
   pub read : Consumes (remaining reader.inner) (remaining reads.inner) input
   pub begun : (held : Option (List ℕ)) (w : Wanted) (last : List ℕ) (r : Report)
-      → Shows old held (naming rejections.inner) w last r
+      → ShowsReport old held (naming rejections.inner) w last r
       → Begins held (naming rejects.inner) (with_part w r (file, input)).rejections

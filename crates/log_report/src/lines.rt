@@ -2,9 +2,9 @@
 ghost use Rattle.std.specs.Prelude.{◌≡◌, IfOk, OnOk, false};
 ghost use Rattle.log_report.specs.Report.{notice_words, rejection_line};
 ghost use Rattle.jsonl.specs.Failures.{Begins, Ends};
-ghost use Rattle.log_report.specs.Runs.{AddsValue, BeginsInput, BeginsLine, BeginsNotice};
+ghost use Rattle.log_report.specs.Runs.{AddsValue, BeginsInput, BeginsCountedLine, BeginsNotice};
 ghost use Rattle.log_report.specs.Runs.{BeginsReport, CountsMore, EndsInput, EndsReport};
-ghost use Rattle.log_report.specs.Runs.{IsRejection, IsStart, Notes, Prints, TakesInput, TakesLine};
+ghost use Rattle.log_report.specs.Runs.{CountsRejection, HasNoLine, Notes, Prints, TakesInput, CountsLine};
 ghost use Rattle.log_report.specs.Runs.{counts_of};
 ghost use Rattle.log_report.specs.Table.{lines_of, others};
 ghost use Rattle.simd_json.specs.Viewed.{doc};
@@ -39,7 +39,7 @@ pub struct Lines<'k, A: Allocator> {
 impl<'k, A: Allocator + Copy> Lines<'k, A> {
     /// Returns the memory for the lines that are wanted.
     pub fn new(a: A, wanted: &'k Wanted<'k>) -> simd_json::Result<Lines<'k, A>>
-        ensures { IfOk result (IsStart wanted.now) }
+        ensures { IfOk result (HasNoLine wanted.now) }
     {
         let mut buffers = Buffers::new(a, 0)?;
         let mut tape = Tape::null(a)?;
@@ -101,8 +101,8 @@ impl<'k, A: Allocator + Copy> Lines<'k, A> {
     /// have.
     pub fn count<E: Write>(&mut self, line: &mut [u8], err: &mut Channel<E>) -> Ended
         ensures { Ends err.old err.new
-            (TakesLine E.contents self.old self.new err.old err.new line.old)
-            (BeginsLine E.contents self.old err.old err.new line.old) result }
+            (CountsLine E.contents self.old self.new err.old err.new line.old)
+            (BeginsCountedLine E.contents self.old err.old err.new line.old) result }
     {
         self.number = self.number.saturating_add(1);
         if line.len() > self.wanted.longest {
@@ -125,7 +125,7 @@ impl<'k, A: Allocator + Copy> Lines<'k, A> {
     // Names the last line as rejected, and counts it. Without an error it is too long.
     fn reject<E: Write>(&mut self, error: Option<Error>, err: &mut Channel<E>) -> Ended
         ensures { Ends err.old err.new
-            (IsRejection E.contents self.old self.new err.old err.new error)
+            (CountsRejection E.contents self.old self.new err.old err.new error)
             (Begins (E.contents err.old.inner) (E.contents err.new.inner)
             (rejection_line self.old.wanted.now self.old.file.now self.old.number
             self.old.original.items error)) result }

@@ -4,7 +4,7 @@ use Rattle.jsonl.proofs.Reading
 use Rattle.jsonl.proofs.Reading.{at-start}
 use Rattle.jsonl.specs.Failures.{name_fault}
 use Rattle.jsonl.specs.Lines.{Moves}
-use Rattle.log_report.specs.Runs.{BeginsLine, TakesLine, input_fault}
+use Rattle.log_report.specs.Runs.{BeginsCountedLine, CountsLine, input_fault}
 use Rattle.log_report.proofs.Counting.{block-at, end-begun, end-taken, line-begun, line-taken, reading-begun}
 use Rattle.log_report.proofs.Written.{input-handed-on, input-named, read-fault}
 use Rattle.log_report.proofs.lines.Lines.read.Goals as goal
@@ -49,7 +49,7 @@ loop-preserved g c =
                 c.loop.lines c.loop.line.items v.count.new.self c.next.new.self c.next.new.line.items _ c.next.new.reader v.count.new.err at
                 (subst (Moves c.loop.lines c.next.new.self c.loop.line.items c.next.new.line.items (g.R.Read.remaining c.loop.reader.inner)
                 (g.R.Read.remaining c.next.new.reader.inner)) v.in-Line.is c.in_ok-next.ensures.1)
-                (subst (TakesLine g.E.Write.contents c.loop.self v.count.new.self c.loop.err v.count.new.err)
+                (subst (CountsLine g.E.Write.contents c.loop.self v.count.new.self c.loop.err v.count.new.err)
                 v.as_mut_slice.ensures.value counted.1);
           })
       | in-Block v ↦
@@ -82,7 +82,7 @@ returns-in_err-count-in-Line g c =
     c.loop.invariant.counted
     (subst (Moves c.loop.lines c.next.new.self c.loop.line.items c.next.new.line.items (g.R.Read.remaining c.loop.reader.inner)
     (g.R.Read.remaining c.next.new.reader.inner)) c.in-Line.is c.in_ok-next.ensures.1)
-    (subst (BeginsLine g.E.Write.contents c.loop.self c.loop.err c.count.new.err) c.as_mut_slice.ensures.value failed.1))
+    (subst (BeginsCountedLine g.E.Write.contents c.loop.self c.loop.err c.count.new.err) c.as_mut_slice.ensures.value failed.1))
 
 pub returns-in-End : goal.returns-in-End
 returns-in-End g c =
@@ -93,12 +93,12 @@ returns-in-End g c =
     (λ taken. end-taken g.R.Read.remaining g.E.Write.contents c.args.self.now c.loop.self c.args.reader.now c.loop.reader c.args.err.now
     c.loop.err c.args.file.now c.loop.lines c.loop.line.items c.count-in-End.new.self c.next.new.self c.next.new.line.items
     c.next.new.reader c.count-in-End.new.err at moves
-    (subst (TakesLine g.E.Write.contents c.loop.self c.count-in-End.new.self c.loop.err c.count-in-End.new.err)
+    (subst (CountsLine g.E.Write.contents c.loop.self c.count-in-End.new.self c.loop.err c.count-in-End.new.err)
     c.as_mut_slice-in-End.ensures.value taken))
     (λ begun. end-begun g.R.Read.remaining g.E.Write.contents c.args.self.now c.loop.self c.args.reader.now c.loop.reader c.args.err.now
     c.loop.err c.args.file.now c.loop.lines c.loop.line.items c.next.new.self c.next.new.line.items c.next.new.reader
     c.count-in-End.new.err at moves
-    (subst (BeginsLine g.E.Write.contents c.loop.self c.loop.err c.count-in-End.new.err) c.as_mut_slice-in-End.ensures.value begun))
+    (subst (BeginsCountedLine g.E.Write.contents c.loop.self c.loop.err c.count-in-End.new.err) c.as_mut_slice-in-End.ensures.value begun))
     (c.count-in-End.ensures c.loop.invariant.err)
 
 pub returns : goal.returns
