@@ -1,5 +1,6 @@
 -- The text of a line around a place, and a caret under it.
-use Rattle.std.specs.Prelude.{ℕ, zero, suc, ◌-◌, ◌/◌, List, [], ◌∷◌, ◌++◌, flat_map, min, drop, count_by, codes, nat_le, nat_lt, encode_utf8}
+use Rattle.std.specs.Prelude.{ℕ, zero, suc, ◌-◌, ◌/◌, List, [], ◌∷◌, ◌++◌, flat_map, min, drop, count_by, codes, nat_le, nat_lt}
+use Rattle.std.specs.Prelude.{encode_utf8}
 use Rattle.std.specs.Prelude.{Bool, true, false, ◌==◌, if◌then◌else◌}
 use Rattle.std.specs.Char.{is_control}
 use Rattle.std.specs.List.{before_first, repeat}

@@ -7,7 +7,8 @@ use Rattle.std.proofs.lemmas.Bool.{cases_Bool, false≢true, or_cases}
 use Rattle.std.proofs.lemmas.List.{drop-drop}
 use Rattle.std.proofs.lemmas.List.Folds.{list_all-append}
 use Rattle.std.proofs.lemmas.Slice.Eq.{bytes_eq-Decides}
-use Rattle.simd_json_parts.specs.Document.{Document, null, boolean, integer, decimal, string, array, object, Elements, Members, no_members, member}
+use Rattle.simd_json_parts.specs.Document.{Document, null, boolean, integer, decimal, string, array, object, Elements, Members}
+use Rattle.simd_json_parts.specs.Document.{no_members, member}
 use Rattle.simd_json_parts.specs.Equality.{equal}
 use Rattle.simd_json_parts.specs.Views.{first_with, is_array, is_object, keys}
 use Rattle.simd_json_parts.specs.Integers.{integer_node, max_magnitude_64}
@@ -19,7 +20,8 @@ use Rattle.simd_json_path.specs.Comparisons.{Primitive, both, both_or_none, prim
 
 -- ---- kinds
 
-pub scalar-first : (n : ℕ) (d e : Document) (p : Primitive) → primitive d ≡ Some p → both same_primitives (Some p) (primitive e) ≡ same_to n d e
+pub scalar-first : (n : ℕ) (d e : Document) (p : Primitive) → primitive d ≡ Some p → both same_primitives (Some p) (primitive e)
+    ≡ same_to n d e
 scalar-first zero (array ds) e p is = cc
 scalar-first zero (object ms) e p is = cc
 scalar-first zero d e p is = ap (λ o. both same_primitives o (primitive e)) (sym is)
@@ -27,7 +29,8 @@ scalar-first (suc n) (array ds) e p is = cc
 scalar-first (suc n) (object ms) e p is = cc
 scalar-first (suc n) d e p is = ap (λ o. both same_primitives o (primitive e)) (sym is)
 
-pub scalar-second : (n : ℕ) (d e : Document) (p : Primitive) → primitive e ≡ Some p → both same_primitives (primitive d) (Some p) ≡ same_to n d e
+pub scalar-second : (n : ℕ) (d e : Document) (p : Primitive) → primitive e ≡ Some p → both same_primitives (primitive d) (Some p)
+    ≡ same_to n d e
 scalar-second zero (array ds) (array es) p is = cc
 scalar-second zero (array ds) (object ns) p is = cc
 scalar-second zero (array ds) e p is = refl
@@ -144,11 +147,13 @@ some-more k d ms (x ∷ xs) all =
 keys-some : (ms : Members) → list_all (λ name. is_some (first_with name ms)) (keys ms) ≡ true
 keys-some no_members = refl
 keys-some (member k d ms) =
-    ap (λ b. is_some (cond b (Some d) (first_with k ms)) && list_all (λ name. is_some (first_with name (member k d ms))) (keys ms)) (bytes-own k)
+    ap (λ b. is_some (cond b (Some d) (first_with k ms)) && list_all (λ name. is_some (first_with name (member k d ms))) (keys ms))
+        (bytes-own k)
     ∙ some-more k d ms (keys ms) (keys-some ms)
 
 -- a name of an object that has it
-some-passes : (p : List ℕ → Bool) (ms : Members) (name : List ℕ) → list_all p (keys ms) ≡ true → is_some (first_with name ms) ≡ true → p name ≡ true
+some-passes : (p : List ℕ → Bool) (ms : Members) (name : List ℕ) → list_all p (keys ms) ≡ true → is_some (first_with name ms) ≡ true
+    → p name ≡ true
 some-passes p no_members name all some = cc
 some-passes p (member k d ms) name all some =
     let parts = and-parts (p k) (list_all p (keys ms)) all in
@@ -163,7 +168,8 @@ at-second : (f : Document → Document → Bool) (ms ns : Members) (name : List 
     → is_some (first_with name ns) ≡ true → same_at f ms ns name ≡ is_some (first_with name ms)
 at-second f ms ns name all some = at-options f (first_with name ms) (first_with name ns) some (some-passes (same_at f ms ns) ms name all)
 
-all-same : (p q r : List ℕ → Bool) (xs : List (List ℕ)) → ((x : List ℕ) → r x ≡ true → p x ≡ q x) → list_all r xs ≡ true → list_all p xs ≡ list_all q xs
+all-same : (p q r : List ℕ → Bool) (xs : List (List ℕ)) → ((x : List ℕ) → r x ≡ true → p x ≡ q x) → list_all r xs ≡ true → list_all p xs
+    ≡ list_all q xs
 all-same p q r [] same all = refl
 all-same p q r (x ∷ xs) same all =
     let parts = and-parts (r x) (list_all r xs) all in

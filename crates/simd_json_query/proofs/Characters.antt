@@ -35,7 +35,8 @@ named-name first name text between rest named begins is = (
   named.spelled,
   begins,
   record {
-    whole = is ∙ ap (λ bs. encode_utf8 first ++ bs) named.run.whole ∙ sym (append_assoc (encode_utf8 first) (encode_utf8_all named.others) rest);
+    whole = is ∙ ap (λ bs. encode_utf8 first ++ bs) named.run.whole
+        ∙ sym (append_assoc (encode_utf8 first) (encode_utf8_all named.others) rest);
     kind = kinds first named.others begins named.run.kind;
   },
 )

@@ -1,5 +1,6 @@
 -- Digits that are read one after the other.
-use Rattle.std.proofs.Common.{◌≡◌, ◌≢◌, ◌∙◌, ap, sym, refl, ◌<◌, ◌≤◌, ◌+◌, ◌*◌, ◌^◌, ℕ, List, [], ◌∷◌, ◌++◌, Bool, true, append_assoc, arith}
+use Rattle.std.proofs.Common.{◌≡◌, ◌≢◌, ◌∙◌, ap, sym, refl, ◌<◌, ◌≤◌, ◌+◌, ◌*◌, ◌^◌, ℕ, List, [], ◌∷◌, ◌++◌, Bool, true, append_assoc}
+use Rattle.std.proofs.Common.{arith}
 use Rattle.std.specs.Prelude.{encode_utf8, encode_utf8_all, map, nat_lt}
 use Rattle.std.specs.Char.{digit_value}
 use Rattle.std.specs.Int.Digits.{number_from_digits, number_from_digits_after}
@@ -41,7 +42,8 @@ pub read-natural : (first value : ℕ) (text between rest : List ℕ) → IsRead
 read-natural first value text between rest read is no_zero few begins = (
   first ∷ read.digits,
   record {
-    whole = begins ∙ ap (λ bs. encode_utf8 first ++ bs) read.run.whole ∙ sym (append_assoc (encode_utf8 first) (encode_utf8_all read.digits) rest);
+    whole = begins ∙ ap (λ bs. encode_utf8 first ++ bs) read.run.whole
+        ∙ sym (append_assoc (encode_utf8 first) (encode_utf8_all read.digits) rest);
     kind = grind (arith, read.run.kind);
   },
   numeral first read.digits no_zero,

@@ -1,5 +1,6 @@
 -- The grammar of a query's smallest parts (RFC 9535), and of its steps.
-use Rattle.std.specs.Prelude.{◌≡◌, ◌≢◌, ◌⊎◌, ◌<◌, ◌≤◌, ℕ, ◌+◌, ◌^◌, ℤ, pos, neg_ℤ, List, [], ◌∷◌, ◌++◌, drop, map, Bool, true, ◌&&◌, ◌||◌, ◌==◌}
+use Rattle.std.specs.Prelude.{◌≡◌, ◌≢◌, ◌⊎◌, ◌<◌, ◌≤◌, ℕ, ◌+◌, ◌^◌, ℤ, pos, neg_ℤ, List, [], ◌∷◌, ◌++◌, drop, map, Bool, true, ◌&&◌, ◌||◌}
+use Rattle.std.specs.Prelude.{◌==◌}
 use Rattle.std.specs.Prelude.{Option, Some, None, nat_lt, encode_utf8, encode_utf8_all}
 use Rattle.std.specs.Char.{digit_value, is_digit, is_ascii_digit, is_ascii_alphabetic}
 use Rattle.std.specs.Int.Digits.{number_from_digits}

@@ -1,5 +1,6 @@
 -- The way to a node, along the nodes of a document.
-use Rattle.std.proofs.Common.{◌≡◌, ◌≤◌, ◌<◌, ◌+◌, ◌-◌, ◌∙◌, ap, sym, subst, refl, true, false, arith, ℕ, zero, suc, Bool, List, [], ◌∷◌, ◌++◌}
+use Rattle.std.proofs.Common.{◌≡◌, ◌≤◌, ◌<◌, ◌+◌, ◌-◌, ◌∙◌, ap, sym, subst, refl, true, false, arith, ℕ, zero, suc, Bool, List, [], ◌∷◌}
+use Rattle.std.proofs.Common.{◌++◌}
 use Rattle.std.proofs.Common.{map, drop, length, slice_get, Some, None, get_or}
 use Rattle.std.specs.Prelude.{is_some, option_and_then}
 use Rattle.std.proofs.lemmas.Option.{get_or_from_slice_get, slice_get_read}
@@ -292,7 +293,8 @@ module _ (ns : List Node) (node at : ℕ) (n : Node) (within : at < length ns) (
   other-at (decimal t) h is = scalar (decimal t) _ refl (λ depth m. refl) h
   other-at (string t) h is = scalar (string t) _ refl (λ depth m. refl) h
   other-at (array ds) h is =
-      absurd (false≢true (sym is ∙ ap (λ y. is_some (array_count y)) (read-is ns at n (array_item _ _) (elements_listing ds) within read h)))
+      absurd (false≢true (sym is ∙ ap (λ y. is_some (array_count y))
+          (read-is ns at n (array_item _ _) (elements_listing ds) within read h)))
   other-at (object ms) h is = record {
     members = ms;
     begin = behind-at ns at (object_item _ _ ∷ []) (members_listing ms) h;
@@ -339,7 +341,8 @@ on-way ns node whole old new at child left less r step is = record {
 pub ends-none : (ns : List Node) (node : ℕ) (whole appended : List ℕ) (at left : ℕ) → IsOnWay ns node whole appended at left → left ≡ 0
     → appended ≡ whole
 ends-none ns node whole appended at left r none =
-    sym (append-nil appended) ∙ ap (λ p. appended ++ p) (sym (ap (λ n. way r.document n (node - at)) none ∙ way-none r.document (node - at)))
+    sym (append-nil appended) ∙ ap (λ p. appended ++ p) (sym (ap (λ n. way r.document n (node - at)) none
+        ∙ way-none r.document (node - at)))
     ∙ r.same
 
 pub ends-step : (ns : List Node) (node : ℕ) (whole old new : List ℕ) (at left : ℕ) (r : IsOnWay ns node whole old at left)

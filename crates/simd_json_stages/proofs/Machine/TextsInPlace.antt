@@ -1,5 +1,6 @@
 -- Texts that lie in the input before an index stay there while later bytes are written.
-use Rattle.std.proofs.Common.{◌≡◌, sym, ◌∙◌, ap, subst, refl, ℕ, ◌+◌, ◌-◌, ◌≤◌, List, [], ◌∷◌, ◌++◌, length, take, drop, get_or, Bool, arith}
+use Rattle.std.proofs.Common.{◌≡◌, sym, ◌∙◌, ap, subst, refl, ℕ, ◌+◌, ◌-◌, ◌≤◌, List, [], ◌∷◌, ◌++◌, length, take, drop, get_or, Bool}
+use Rattle.std.proofs.Common.{arith}
 use Rattle.std.proofs.lemmas.Grind.{common_steps}
 use Rattle.std.specs.Prelude.{IsFalse, IsUtf8, slice_set}
 use Rattle.std.proofs.lemmas.List.{drop-drop, drop-take, take-take, get_or-drop, length-drop, length-take-le}
@@ -97,7 +98,8 @@ laid-set {bytes} {end} {ps} i p laid lies is = record {
 pub lies-there : (bytes : List ℕ) (i n end : ℕ) (item : Item) → text_of item ≡ take n (drop i bytes) → i + n ≤ end → end ≤ length bytes
     → IsUtf8 (take n (drop i bytes)) → LiesBefore bytes end (record { at = i; item = item })
 lies-there bytes i n end item is ends fits utf8 =
-    let size : length (text_of item) ≡ n = ap length is ∙ length-take-le n (drop i bytes) (omega (arith, length-drop i bytes, ends, fits)) in
+    let size : length (text_of item) ≡ n = ap length is ∙ length-take-le n (drop i bytes)
+        (omega (arith, length-drop i bytes, ends, fits)) in
     record {
       before = omega (arith, size, ends);
       there = ap (λ k. take k (drop i bytes)) size ∙ sym is;

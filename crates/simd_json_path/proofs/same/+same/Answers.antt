@@ -9,7 +9,8 @@ use Rattle.simd_json_path.specs.Comparisons.{same_at, same_members, same_to}
 use Rattle.simd_json_path.specs.Operands.{scalar_value}
 use Rattle.simd_json_path.proofs.Equals.{among-true, members-same, rest-drop, rest-false, rest-more, scalar-first}
 use Rattle.simd_json_path.proofs.same.+same.Goals as goal
-use Rattle.simd_json_path.proofs.same.+same.Goals.{same_pairs-else-not-is_among-via-then-not-is_among+else-not-same_value, same_pairs-else-not-is_among-via-else-not-is_among}
+use Rattle.simd_json_path.proofs.same.+same.Goals.{same_pairs-else-not-is_among-via-then-not-is_among+else-not-same_value}
+use Rattle.simd_json_path.proofs.same.+same.Goals.{same_pairs-else-not-is_among-via-else-not-is_among}
 
 pub same_to-returns-in-Some : goal.same_to-returns-in-Some
 same_to-returns-in-Some t c =

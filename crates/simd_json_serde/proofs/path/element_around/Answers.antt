@@ -16,9 +16,11 @@ pub loop-element-preserved : goal.loop-element-preserved
 loop-element-preserved c =
     let a = c.args in
     let l = c.loop-element in (
-      (let more = c.after-next.ensures.further (omega (arith, c.loop-element-test.true, c.ranges.end.fits)) in omega (arith, more, l.invariant.0)),
+      (let more = c.after-next.ensures.further (omega (arith, c.loop-element-test.true, c.ranges.end.fits)) in
+          omega (arith, more, l.invariant.0)),
       λ ds h ends before.
-          element-passed a.nodes.now a.end a.node (λ depth. elements_way ds 0 depth (a.node - a.first)) l.element l.index c.after-next.result
+          element-passed a.nodes.now a.end a.node (λ depth. elements_way ds 0 depth
+              (a.node - a.first)) l.element l.index c.after-next.result
           c.after-next.ensures.value c.loop-element-test.true (l.invariant.1 ds h ends before) (omega (arith, c.if-node-next.false)),
     )
 

@@ -32,7 +32,8 @@ returns-in-Ok-clause-decoded g c b is =
     record {
       string = take (end - 1) (drop 1 new);
       read = d.string;
-      put = c.hand_string.ensures.put ∙ ap (λ us. g.S.SpanSink.placed c.args.nodes.now ++ record { at = at + 1; item = string_item us } ∷ [])
+      put = c.hand_string.ensures.put ∙ ap (λ us. g.S.SpanSink.placed c.args.nodes.now ++ record { at = at + 1; item = string_item us }
+          ∷ [])
           (ap (λ us. take (end - 1) (drop (at + 1) us)) (sym c.hand_string.ensures.bytes) ∙ text);
       there = ap (λ n. take n (drop (at + 1) after)) size ∙ text;
       utf8 = d.utf8;

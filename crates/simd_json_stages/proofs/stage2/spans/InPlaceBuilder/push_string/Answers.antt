@@ -73,7 +73,8 @@ returns-then-not-may_have_escape-clause-put g c b reads string =
       string = text;
       end = suc (closing_quote b at);
       node = string_item text;
-      read = plain-string b at c.args.end string plain text (ap (take (end - (at + 1))) (place-drop reads (at + 1) (omega (arith, reads.before)))
+      read = plain-string b at c.args.end string plain text (ap (take (end - (at + 1)))
+          (place-drop reads (at + 1) (omega (arith, reads.before)))
           ∙ shared-slice b b at c.args.end _ string refl closing);
       item = refl;
       put = ap (map item) c.hand_string.ensures.put ∙ map-append item (g.S.SpanSink.placed c.args.self.now.nodes.now) _;
