@@ -4,7 +4,7 @@
 //! A string has no escape if it ends before the next backslash. It is not read at all: its closing
 //! quote is the last quote before the next structural index, since only whitespace lies between.
 ghost use Rattle.std.specs.Prelude.{◌≡◌, ◌≤◌, ◌<◌, ◌+◌, ◌*◌, ◌^◌};
-ghost use Rattle.std.specs.Prelude.{ℕ, List, length, slice_index, drop, IsFalse};
+ghost use Rattle.std.specs.Prelude.{ℕ, List, length, slice_index, drop, IfSome};
 ghost use Rattle.simd_json_parts.specs.StringAt.{closing_quote};
 ghost use Rattle.simd_json_stages.specs.EscapesAhead.{AreAhead, ArePassed, PlainFrom};
 ghost use Rattle.simd_json_stages.specs.Inputs.{HasQuoted, IsStringBefore};
@@ -37,32 +37,29 @@ impl<'a> Escapes<'a> {
         }
     }
 
-    // The walk, come to index `at`, and whether the string from there on may have an escape before
-    // index `end`. `rest` is the input from index `at` on. Past the mark this is true without a
-    // search if fewer than 32 bytes are left, so the last strings may be decoded although they have
-    // none. It is also true if one of the next 32 bytes is a backslash: if escapes are dense, this
-    // finds the next one at less cost than the walk.
+    // The walk, come to the first backslash from index `at` on. `rest` is the input from there on.
+    // Returns `None`, without a search, if fewer than 32 bytes are left, so the last strings may be
+    // decoded although they have no escape. The same if one of the next 32 bytes is a backslash: if
+    // escapes are dense, decoding finds the next one at less cost than the walk.
+    //
+    // The callers compare the mark and store only a walk that went on: with a walk and a flag that
+    // are always returned and stored, some texts cost 3 % more instructions.
     #[inline(always)]
-    pub(super) fn ahead(self, rest: &[u8], at: usize, end: usize) -> (Escapes<'a>, bool)
+    pub(super) fn ahead(self, rest: &[u8], at: usize) -> Option<Escapes<'a>>
         requires { at + length rest.now < 2 ^ 64 }
-        ensures ahead { (b : List ℕ) → drop at b ≡ rest.now → AreAhead b self.entry at
-            → AreAhead b result.0 at }
-        ensures plain { IsFalse result.1 → (b : List ℕ) → drop at b ≡ rest.now
-            → AreAhead b self.entry at → PlainFrom b at end }
+        ensures { IfSome result (λ walk. (b : List ℕ) → drop at b ≡ rest.now
+            → AreAhead b self.entry at → AreAhead b walk at) }
     {
-        if end <= self.mark {
-            return (self, false);
-        }
-        if at <= self.mark || rest.len() < 32 {
-            return (self, true);
+        if rest.len() < 32 {
+            return None;
         }
         let backslashes = u8x32::from_slice(rest).simd_eq(u8x32::splat(b'\\'));
         if backslashes.to_bitmask() != 0 {
-            return (self, true);
+            return None;
         }
-        let (next, mark) = next_backslash(self.blocks, self.next, at, rest);
-        let blocks = self.blocks;
-        (Escapes { blocks, next, mark }, mark < end)
+        let Escapes { blocks, next, .. } = self;
+        let (next, mark) = next_backslash(blocks, next, at, rest);
+        Some(Escapes { blocks, next, mark })
     }
 }
 

@@ -154,12 +154,16 @@ impl<'m, 'de> Input<'m, 'de> {
         ensures plain { IsFalse result → (b : List ℕ) → Reads b self.old at → PlainFrom b at end }
         ensures lent { IsTrue result → IsFalse self.new.is_plain }
     {
-        if self.is_plain {
+        if self.is_plain || end <= self.escapes.mark {
             return false;
         }
-        let (escapes, may_have_escape) = self.escapes.ahead(self.from(at), at, end);
-        self.escapes = escapes;
-        may_have_escape
+        if self.escapes.mark < at {
+            match self.escapes.ahead(self.from(at), at) {
+                Some(escapes) => self.escapes = escapes,
+                None => return true,
+            }
+        }
+        self.escapes.mark < end
     }
 
     // Shares the string whose opening quote has index `at`, and which has no escape. It is closed

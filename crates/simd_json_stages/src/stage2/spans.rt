@@ -210,10 +210,16 @@ impl<'n, 'm, 'b, S: SpanSink> InPlace<'n, 'm, 'b, S> {
         ensures plain { IsFalse result.1 → (b : List ℕ) → ReadsInPlace b self.now.bytes.now
             self.now.at self.now.is_plain self.now.escapes at → PlainFrom b at end }
     {
-        if self.is_plain {
+        if self.is_plain || end <= self.escapes.mark {
             return (self.escapes, false);
         }
-        self.escapes.ahead(&self.bytes[at..], at, end)
+        if at <= self.escapes.mark {
+            return (self.escapes, true);
+        }
+        match self.escapes.ahead(&self.bytes[at..], at) {
+            Some(escapes) => (escapes, escapes.mark < end),
+            None => (self.escapes, true),
+        }
     }
 
     // The index of the closing quote of the string from index `at`, which is closed before `end`.
