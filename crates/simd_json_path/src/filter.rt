@@ -5,8 +5,10 @@ ghost use Rattle.simd_json_path.specs.Filters.{at_step, at_steps, holds, selecte
 
 use crate::children::at_index;
 use crate::operand::{compares, operand_of};
+use bumpalo::Bump;
 use simd_json::tape::Value;
-use simd_json_query::{SingularQuery, Step, Test};
+use simd_json_query::{PathError, SingularQuery, Step, Test, read_filter};
+use std::alloc::Allocator;
 
 /// A test of a value by itself: `@` and `$` are both the value.
 #[derive(Clone, Copy)]
@@ -15,10 +17,22 @@ pub struct Filter<'path> {
     pub test: &'path Test<'path>,
 }
 
-impl Filter<'_> {
-    ghost use Rattle.std.specs.Prelude.{◌≡◌};
+impl<'path> Filter<'path> {
+    ghost use Rattle.std.specs.Prelude.{◌≡◌, IfOk};
     ghost use Rattle.simd_json.specs.Viewed.{doc};
     ghost use Rattle.simd_json_path.specs.Filters.{holds};
+    ghost use Rattle.simd_json_query.specs.Queries.{FilterText};
+
+    /// The test of a text, in an arena: a logical expression, as `@.price < 10 && @.isbn`.
+    ///
+    /// Returns where the text is no test, and what it lacks there, or `Memory` where an allocation
+    /// fails. What filters may hold is as in [`Path::new`](crate::Path::new).
+    pub fn new<A: Allocator>(arena: &'path Bump<A>, text: &str) -> Result<Filter<'path>, PathError>
+        ensures { IfOk result (λ filter. FilterText filter.test.now text.now) }
+    {
+        let test = read_filter(arena, text)?;
+        Ok(Filter { test })
+    }
 
     /// Whether the value passes the test (section 2.3.5.2). It allocates nothing, and recurses no
     /// deeper than parentheses, `!` and `length` are nested in the test.

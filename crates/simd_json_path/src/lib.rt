@@ -31,10 +31,10 @@
 //! | name, wildcard, index, slice selectors (2.3.1 to 2.3.4) | [`Selector`] |
 //! | filter selectors (2.3.5): existence and comparisons of singular queries, `!`, `&&`, `\|\|` | [`Test`] |
 //! | `length`, `count` and `value` (2.4) of singular queries | [`Comparable`] |
-//! | a filter by itself, of one value | [`Filter`] |
+//! | a filter by itself, of one value | [`Filter`], [`Filter::new`] |
 //! | child and descendant segments (2.5) | [`Segment`] |
-//! | a query's text, but filters in it | [`Path::new`] |
-//! | filters in a query's text, `match`, `search`, normalized paths (2.7) | not yet |
+//! | a query's text | [`Path::new`] |
+//! | `match`, `search`, other queries in filters, normalized paths (2.7) | not yet |
 //!
 //! The RFC leaves the order of an object's members open: here it is the text's. Of equal names a
 //! name selects the first; wildcards and descendant segments visit all.

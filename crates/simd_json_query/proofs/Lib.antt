@@ -2,5 +2,9 @@ pub mod Shorter
 pub mod Found
 pub mod Runs
 pub mod Numbers
+pub mod Numerals
 pub mod Characters
 pub mod Lists
+pub mod Words
+pub mod Operands
+pub mod Tests

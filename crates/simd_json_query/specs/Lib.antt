@@ -1,3 +1,4 @@
 pub mod Spans
 pub mod Steps
+pub mod Filters
 pub mod Queries

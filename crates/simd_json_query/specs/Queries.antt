@@ -1,9 +1,11 @@
 -- The grammar of a query (RFC 9535): which text is which query.
-use Rattle.std.specs.Prelude.{◌≡◌, ℕ, ℤ, pos, List, [], ◌∷◌, ◌++◌, Bool, true, false, Option, Some, None}
+use Rattle.std.specs.Prelude.{◌≡◌, ℕ, ℤ, pos, List, [], ◌∷◌, Bool, true, false, Option, Some, None}
 use Rattle.simd_json_parts.specs.Bytes.{colon, comma, left_bracket, right_bracket}
+use Rattle.simd_json_query.specs.Filters.{Logical, question_mark}
 use Rattle.simd_json_query.specs.Spans.{◌then◌, ◌or◌, Empty, Many, Mark, Nothing}
 use Rattle.simd_json_query.specs.Steps.{Blanks, Integer, Name, Steps, StringText, dollar, dot, star}
 use Rattle.simd_json_query.specs.declared.filter.Step.{Step}
+use Rattle.simd_json_query.specs.declared.filter.Test.{Test}
 use Rattle.simd_json_query.specs.declared.query.Segment.{Segment}
 use Rattle.simd_json_query.specs.declared.query.Selector.{Selector}
 use Rattle.simd_json_query.specs.declared.query.Selector.TheVariants as selector
@@ -24,14 +26,17 @@ abbrev pub SliceText : Slice → List ℕ → List ℕ → Type 0
 SliceText s =
     Optional s.start then Blanks then Mark colon then Blanks then Optional s.end then SliceStep s.step
 
--- ---- selectors (section 2.3)
+-- ---- selectors (section 2.3); parentheses in a filter may be nested so deep
+
+abbrev pub max_nesting : ℕ
+max_nesting = 100
 
 abbrev pub SelectorText : Selector → List ℕ → List ℕ → Type 0
 SelectorText (selector.Name name) = StringText name.now
 SelectorText selector.Wildcard = Mark star
 SelectorText (selector.Index i) = Integer i
 SelectorText (selector.Slice s) = SliceText s
-SelectorText (selector.Filter test) = Nothing
+SelectorText (selector.Filter test) = Mark question_mark then Blanks then Logical max_nesting test.now
 
 abbrev pub Selectors : List Selector → List ℕ → List ℕ → Type 0
 Selectors [] = Nothing
@@ -59,3 +64,8 @@ Segments = Many (λ s. Blanks then SegmentText s.is_descendant s.selectors.now t
 
 abbrev pub Query : List Step → List Segment → List ℕ → Type 0
 Query steps segments text = (Mark dollar then Steps steps then Segments segments) text []
+
+-- ---- a lone test, as of a value
+
+abbrev pub FilterText : Test → List ℕ → Type 0
+FilterText test text = (Blanks then Logical max_nesting test then Blanks) text []

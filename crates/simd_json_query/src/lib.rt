@@ -7,4 +7,4 @@ mod text;
 
 pub use filter::{Comparable, Comparison, Literal, SingularQuery, Step, Test};
 pub use query::{Segment, Selector, Slice};
-pub use text::{PathError, PathExpected, QueryParts, read};
+pub use text::{PathError, PathExpected, QueryParts, read, read_filter};

@@ -1,15 +1,18 @@
 //! The text of a query (RFC 9535, sections 2.1 to 2.5).
 ghost use Rattle.std.specs.Prelude.{◌≤◌, length, IfErr, IfOk};
-ghost use Rattle.simd_json_query.specs.Queries.{Query};
+ghost use Rattle.simd_json_query.specs.Queries.{FilterText, Query};
 
-use crate::filter::Step;
+use crate::filter::{Step, Test};
 use crate::query::Segment;
 use bumpalo::Bump;
 use std::alloc::Allocator;
 use std::fmt;
 
+mod comparables;
 mod cursor;
+mod filters;
 mod integers;
+mod literals;
 mod names;
 mod segments;
 mod selectors;
@@ -29,7 +32,7 @@ pub enum PathExpected {
     Member,
     /// A name without quotes, `*` or `[`, after `..`.
     Descendants,
-    /// A selector: a name in quotes, `*`, an index or a slice. Filters are not read yet.
+    /// A selector: a name in quotes, `*`, an index, a slice, or `?` and a test.
     Selector,
     /// `,` or `]` after a selector.
     Separator,
@@ -41,6 +44,29 @@ pub enum PathExpected {
     Character,
     /// An escape that a string of these quotes may have, of a character.
     Escape,
+    /// A test of a filter: a query, a comparison, `!` or `(`.
+    Test,
+    /// A query or `(`, after `!`.
+    Denied,
+    /// What a comparison compares: a literal, a query, or a call of `length`, `count` or `value`.
+    Comparable,
+    /// A comparison operator, after a literal or a call.
+    Comparison,
+    /// A query: the argument of `count` or `value`.
+    Query,
+    /// A query of at most one node, of names and indexes alone: in filters others are not
+    /// supported.
+    SingularQuery,
+    /// A test without `match` or `search`: regular expressions are not supported.
+    WithoutPattern,
+    /// A number, as JSON spells it.
+    Number,
+    /// `)`.
+    Parenthesis,
+    /// Fewer parentheses, one in the other: at most 100.
+    LessNesting,
+    /// `&&`, `||` or the end of a test.
+    End,
     /// Memory: an allocation failed.
     Memory,
 }
@@ -58,6 +84,17 @@ impl fmt::Display for PathExpected {
             PathExpected::SmallerInteger => "an integer of at most 2^53 - 1",
             PathExpected::Character => "a character or the closing quote",
             PathExpected::Escape => "an escape",
+            PathExpected::Test => "a test",
+            PathExpected::Denied => "a query or (",
+            PathExpected::Comparable => "a literal, a query or a function",
+            PathExpected::Comparison => "a comparison operator",
+            PathExpected::Query => "a query",
+            PathExpected::SingularQuery => "a query of at most one node",
+            PathExpected::WithoutPattern => "a test without match or search",
+            PathExpected::Number => "a number",
+            PathExpected::Parenthesis => ")",
+            PathExpected::LessNesting => "at most 100 nested parentheses",
+            PathExpected::End => "&&, || or the end",
             PathExpected::Memory => "more memory",
         })
     }
@@ -87,10 +124,14 @@ impl std::error::Error for PathError {}
 /// The parts of a query: the steps with which it begins, and its segments.
 pub type QueryParts<'path> = (&'path [Step<'path>], &'path [Segment<'path>]);
 
+// Parentheses may be nested so deep.
+const MAX_NESTING: usize = 100;
+
 /// The query of a text, in an arena.
 ///
 /// Returns where the text is no query, and what it lacks there, or `Memory` where an allocation
-/// fails. Filter selectors are not read yet.
+/// fails. In filters only queries of at most one node are read, and no `match` and `search`; blanks
+/// may stand inside brackets in a compared query too.
 pub fn read<'path, A: Allocator>(
     arena: &'path Bump<A>,
     text: &str,
@@ -100,9 +141,23 @@ pub fn read<'path, A: Allocator>(
 {
     match segments::query(arena, text) {
         Ok(parts) => Ok(parts),
-        Err(stop) => Err(PathError {
-            index: text.len().saturating_sub(stop.left),
-            expected: stop.expected,
-        }),
+        Err(stop) => Err(stop.in_text(text)),
+    }
+}
+
+/// The test of a text, in an arena: a logical expression, as `@.price < 10 && @.isbn`.
+///
+/// Returns where the text is no test, and what it lacks there, or `Memory` where an allocation
+/// fails, as [`read`] does of a test in a query.
+pub fn read_filter<'path, A: Allocator>(
+    arena: &'path Bump<A>,
+    text: &str,
+) -> Result<&'path Test<'path>, PathError>
+    ensures test { IfOk result (λ test. FilterText test.now text.now) }
+    ensures index { IfErr result (λ e. e.index ≤ length text.now) }
+{
+    match filters::whole(arena, text) {
+        Ok(test) => Ok(test),
+        Err(stop) => Err(stop.in_text(text)),
     }
 }

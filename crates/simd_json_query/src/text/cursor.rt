@@ -4,7 +4,7 @@ ghost use Rattle.simd_json_parts.specs.Bytes.{is_whitespace};
 ghost use Rattle.simd_json_query.specs.Steps.{Blanks};
 ghost use Rattle.simd_json_query.specs.Spans.{Mark};
 
-use crate::text::PathExpected;
+use crate::text::{PathError, PathExpected};
 use std::alloc::{AllocError, AllocFailed};
 
 // Where reading stopped: how many bytes were left, and what was expected.
@@ -33,6 +33,16 @@ impl<T: Drop> From<AllocFailed<T>> for Stop {
 }
 
 impl Stop {
+    // The error in the text that was read.
+    pub(super) fn in_text(self, text: &str) -> PathError
+        ensures { result.index ≤ length text.now }
+    {
+        PathError {
+            index: text.len().saturating_sub(self.left),
+            expected: self.expected,
+        }
+    }
+
     pub(super) fn at(rest: &str, expected: PathExpected) -> Stop {
         Stop {
             left: rest.len(),
@@ -60,6 +70,14 @@ pub(super) fn after(rest: &str, mark: char) -> Option<&str>
 {
     let (first, others) = next(rest)?;
     if first == mark { Some(others) } else { None }
+}
+
+// What is after these characters, if the text begins with them.
+pub(super) fn word<'t>(rest: &'t str, characters: &str) -> Option<&'t str>
+    ensures word { IfSome result (λ r. rest.now ≡ characters.now ++ r.now) }
+    ensures shorter { IfSome result (λ r. length r.now ≤ length rest.now) }
+{
+    rest.strip_prefix(characters)
 }
 
 // What is after the blanks at the front.

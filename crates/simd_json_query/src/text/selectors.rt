@@ -7,10 +7,11 @@ ghost use Rattle.simd_json_query.specs.Queries.{SliceStep};
 ghost use Rattle.simd_json_query.specs.Spans.{◌then◌, Mark};
 
 use crate::query::{Selector, Slice};
-use crate::text::PathExpected;
 use crate::text::cursor::{Stop, after, skip_blanks};
+use crate::text::filters::logical;
 use crate::text::integers::{begins_integer, optional};
 use crate::text::strings::quoted;
+use crate::text::{MAX_NESTING, PathExpected};
 use bumpalo::Bump;
 use bumpalo::collections::into_bump_slice;
 use std::alloc::Allocator;
@@ -54,6 +55,10 @@ fn selector<'path, 't, A: Allocator>(
     }
     if let Some((name, others)) = quoted(arena, rest)? {
         return Ok((Selector::Name(name), others));
+    }
+    if let Some(others) = after(rest, '?') {
+        let (test, behind) = logical(arena, skip_blanks(others), MAX_NESTING)?;
+        return Ok((Selector::Filter(arena.try_alloc(test)?), behind));
     }
     if begins_integer(rest) || after(rest, ':').is_some() {
         return index_or_slice(rest);

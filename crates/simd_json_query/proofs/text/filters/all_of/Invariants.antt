@@ -1,0 +1,13 @@
+use Rattle.std.proofs.Common.{ℕ, List, length}
+use Rattle.std.specs.Prelude.{codes}
+use Rattle.simd_json_query.specs.Filters.{Basic, Conjunction, Nested, Operands}
+use Rattle.simd_json_query.proofs.text.filters.all_of.Given as goal
+
+abbrev pub invariant-operands : goal.invariant-operands
+invariant-operands g l =
+    (nesting : ℕ) (text between rest : List ℕ)
+    → Operands (Basic (Nested nesting)) (codes "&&") l.initial.before.items text between → Basic (Nested nesting) l.fn.last between rest
+    → (m : List ℕ) × Operands (Basic (Nested nesting)) (codes "&&") l.before.items text m × Conjunction (Nested nesting) l.test m rest
+
+abbrev pub decreases-operands : goal.decreases-operands
+decreases-operands g l = length l.before.items

@@ -1,0 +1,117 @@
+//! What a filter compares, and the queries in it (RFC 9535, sections 2.3.5.1 and 2.4).
+ghost use Rattle.std.specs.Prelude.{◌≤◌, length, IfOk, IfSome};
+ghost use Rattle.simd_json_query.specs.Filters.{ComparableText, SingularText};
+ghost use Rattle.simd_json_query.specs.Filters.{right_parenthesis};
+ghost use Rattle.simd_json_query.specs.Spans.{◌then◌, Mark};
+ghost use Rattle.simd_json_query.specs.Steps.{Blanks};
+
+use crate::filter::{Comparable, SingularQuery};
+use crate::text::PathExpected;
+use crate::text::cursor::{Stop, after, next, skip_blanks, word};
+use crate::text::literals::literal;
+use crate::text::steps::steps;
+use bumpalo::Bump;
+use std::alloc::Allocator;
+
+// What is compared, and what is after it; `expected` is what the text lacks where it is none. So
+// many calls may stand one in the other.
+pub(super) fn comparable<'path, 't, A: Allocator>(
+    arena: &'path Bump<A>,
+    rest: &'t str,
+    expected: PathExpected,
+    nesting: usize,
+) -> Result<(Comparable<'path>, &'t str), Stop>
+    ensures comparable { IfOk result (λ r. ComparableText r.0 rest.now r.1.now) }
+    ensures shorter { IfOk result (λ r. length r.1.now ≤ length rest.now) }
+{
+    if let Some(others) = word(rest, "length(") {
+        if nesting == 0 {
+            return Err(Stop::at(rest, PathExpected::LessNesting));
+        }
+        let begin = skip_blanks(others);
+        let (inner, end) = comparable(arena, begin, PathExpected::Comparable, nesting - 1)?;
+        let inner = arena.try_alloc(inner)?;
+        return Ok((Comparable::Length(inner), closed(end)?));
+    }
+    if let Some(others) = word(rest, "count(") {
+        let (query, others) = argument(arena, others)?;
+        return Ok((Comparable::Count(query), others));
+    }
+    if let Some(others) = word(rest, "value(") {
+        let (query, others) = argument(arena, others)?;
+        return Ok((Comparable::Value(query), others));
+    }
+    if let Some((query, others)) = singular(arena, rest)? {
+        return Ok((Comparable::Query(query), others));
+    }
+    if let Some((literal, others)) = literal(arena, rest)? {
+        return Ok((Comparable::Literal(literal), others));
+    }
+    Err(Stop::at(rest, without_pattern(rest, expected)))
+}
+
+// A query and the `)` of a call.
+fn argument<'path, 't, A: Allocator>(
+    arena: &'path Bump<A>,
+    rest: &'t str,
+) -> Result<(SingularQuery<'path>, &'t str), Stop>
+    ensures argument { IfOk result (λ r. (Blanks then SingularText r.0
+        then Blanks then Mark right_parenthesis) rest.now r.1.now) }
+    ensures shorter { IfOk result (λ r. length r.1.now ≤ length rest.now) }
+{
+    let begin = skip_blanks(rest);
+    match singular(arena, begin)? {
+        Some((query, end)) => Ok((query, closed(end)?)),
+        None => Err(Stop::at(begin, PathExpected::Query)),
+    }
+}
+
+// What is after a `)`.
+pub(super) fn closed(rest: &str) -> Result<&str, Stop>
+    ensures closed { IfOk result (λ r. (Blanks then Mark right_parenthesis) rest.now r.now) }
+    ensures shorter { IfOk result (λ r. length r.now ≤ length rest.now) }
+{
+    let end = skip_blanks(rest);
+    match after(end, ')') {
+        Some(others) => Ok(others),
+        None => Err(Stop::at(end, PathExpected::Parenthesis)),
+    }
+}
+
+// A query of one node, if one is there, and what is after it.
+pub(super) fn singular<'path, 't, A: Allocator>(
+    arena: &'path Bump<A>,
+    rest: &'t str,
+) -> Result<Option<(SingularQuery<'path>, &'t str)>, Stop>
+    ensures query { IfOk result (λ found. IfSome found (λ r. SingularText r.0 rest.now r.1.now)) }
+    ensures shorter { IfOk result (λ found. IfSome found (λ r. length r.1.now ≤ length rest.now)) }
+{
+    if let Some(others) = after(rest, '@') {
+        let (steps, end) = steps(arena, others)?;
+        ended(end)?;
+        return Ok(Some((SingularQuery::Relative(steps), end)));
+    }
+    if let Some(others) = after(rest, '$') {
+        let (steps, end) = steps(arena, others)?;
+        ended(end)?;
+        return Ok(Some((SingularQuery::Absolute(steps), end)));
+    }
+    Ok(None)
+}
+
+// No segment may be after a query of one node.
+fn ended(rest: &str) -> Result<(), Stop> {
+    let end = skip_blanks(rest);
+    match next(end) {
+        Some(('.' | '[', _)) => Err(Stop::at(end, PathExpected::SingularQuery)),
+        _ => Ok(()),
+    }
+}
+
+// What the text lacks where nothing that is compared is there.
+pub(super) fn without_pattern(rest: &str, expected: PathExpected) -> PathExpected {
+    if word(rest, "match(").is_some() || word(rest, "search(").is_some() {
+        return PathExpected::WithoutPattern;
+    }
+    expected
+}

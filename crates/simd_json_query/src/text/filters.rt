@@ -1,0 +1,209 @@
+//! The tests of filters: logical expressions (RFC 9535, section 2.3.5.1).
+ghost use Rattle.std.specs.Prelude.{◌≤◌, List, ℕ, length, IfOk, IfSome, codes};
+ghost use Rattle.simd_json_query.specs.Filters.{Basic, Conjunction, Denied, Logical, Nested};
+ghost use Rattle.simd_json_query.specs.Filters.{Operands, OperatorText, left_parenthesis};
+ghost use Rattle.simd_json_query.specs.Queries.{FilterText};
+ghost use Rattle.simd_json_query.specs.Spans.{Mark};
+
+use crate::filter::{Comparable, Comparison, Test};
+use crate::text::comparables::{closed, comparable, singular, without_pattern};
+use crate::text::cursor::{Stop, after, skip_blanks, word};
+use crate::text::{MAX_NESTING, PathExpected};
+use bumpalo::Bump;
+use std::alloc::Allocator;
+
+// The test of a whole text.
+pub(super) fn whole<'path, A: Allocator>(
+    arena: &'path Bump<A>,
+    text: &str,
+) -> Result<&'path Test<'path>, Stop>
+    ensures { IfOk result (λ test. FilterText test.now text.now) }
+{
+    let (test, others) = logical(arena, skip_blanks(text), MAX_NESTING)?;
+    let end = skip_blanks(others);
+    if !end.is_empty() {
+        return Err(Stop::at(end, PathExpected::End));
+    }
+    Ok(arena.try_alloc(test)?)
+}
+
+// A logical expression, with parentheses at most so deep, and what is after it.
+#[cycle(tests)]
+pub(super) fn logical<'path, 't, A: Allocator>(
+    arena: &'path Bump<A>,
+    rest: &'t str,
+    nesting: usize,
+) -> Result<(Test<'path>, &'t str), Stop>
+    ensures test { IfOk result (λ r. Logical nesting r.0 rest.now r.1.now) }
+    ensures shorter { IfOk result (λ r. length r.1.now ≤ length rest.now) }
+{
+    let mut before = Vec::new(arena);
+    let (mut last, mut left) = conjunction(arena, rest, nesting)?;
+    'operands: while let Some(others) = word(skip_blanks(left), "||") {
+        let (next, behind) = conjunction(arena, skip_blanks(others), nesting)?;
+        before.push(last)?;
+        last = next;
+        left = behind;
+    }
+    Ok((one_of(arena, before, last)?, left))
+}
+
+// Tests with `&&` between them, and what is after them.
+#[cycle(tests)]
+fn conjunction<'path, 't, A: Allocator>(
+    arena: &'path Bump<A>,
+    rest: &'t str,
+    nesting: usize,
+) -> Result<(Test<'path>, &'t str), Stop>
+    ensures test { IfOk result (λ r. Conjunction (Nested nesting) r.0 rest.now r.1.now) }
+    ensures shorter { IfOk result (λ r. length r.1.now ≤ length rest.now) }
+{
+    let mut before = Vec::new(arena);
+    let (mut last, mut left) = basic(arena, rest, nesting)?;
+    'operands: while let Some(others) = word(skip_blanks(left), "&&") {
+        let (next, behind) = basic(arena, skip_blanks(others), nesting)?;
+        before.push(last)?;
+        last = next;
+        left = behind;
+    }
+    Ok((all_of(arena, before, last)?, left))
+}
+
+// One of these tests passes, or the last one.
+fn one_of<'path, A: Allocator>(
+    arena: &'path Bump<A>,
+    mut before: Vec<Test<'path>, &'path Bump<A>>,
+    last: Test<'path>,
+) -> Result<Test<'path>, Stop>
+    ensures { IfOk result (λ t. (nesting : ℕ) (text between rest : List ℕ)
+        → Operands (Conjunction (Nested nesting)) (codes "||") before.entry.items text between
+        → Conjunction (Nested nesting) last.entry between rest → Logical nesting t text rest) }
+{
+    let mut test = last;
+    'operands: while let Some(first) = before.pop() {
+        test = Test::Or(arena.try_alloc(first)?, arena.try_alloc(test)?);
+    }
+    Ok(test)
+}
+
+// All of these tests pass, and the last one.
+fn all_of<'path, A: Allocator>(
+    arena: &'path Bump<A>,
+    mut before: Vec<Test<'path>, &'path Bump<A>>,
+    last: Test<'path>,
+) -> Result<Test<'path>, Stop>
+    ensures { IfOk result (λ t. (nesting : ℕ) (text between rest : List ℕ)
+        → Operands (Basic (Nested nesting)) (codes "&&") before.entry.items text between
+        → Basic (Nested nesting) last.entry between rest
+        → Conjunction (Nested nesting) t text rest) }
+{
+    let mut test = last;
+    'operands: while let Some(first) = before.pop() {
+        test = Test::And(arena.try_alloc(first)?, arena.try_alloc(test)?);
+    }
+    Ok(test)
+}
+
+// A test without `&&` or `||` outside parentheses.
+#[cycle(tests)]
+fn basic<'path, 't, A: Allocator>(
+    arena: &'path Bump<A>,
+    rest: &'t str,
+    nesting: usize,
+) -> Result<(Test<'path>, &'t str), Stop>
+    ensures test { IfOk result (λ r. Basic (Nested nesting) r.0 rest.now r.1.now) }
+    ensures shorter { IfOk result (λ r. length r.1.now ≤ length rest.now) }
+{
+    if let Some(others) = after(rest, '!') {
+        let (test, behind) = denied(arena, skip_blanks(others), nesting)?;
+        return Ok((Test::Not(arena.try_alloc(test)?), behind));
+    }
+    if let Some(others) = after(rest, '(') {
+        return nested(arena, rest, others, nesting);
+    }
+    compared(arena, rest, nesting)
+}
+
+// What is denied by a `!`: a query, or a test in parentheses.
+#[cycle(tests)]
+fn denied<'path, 't, A: Allocator>(
+    arena: &'path Bump<A>,
+    rest: &'t str,
+    nesting: usize,
+) -> Result<(Test<'path>, &'t str), Stop>
+    ensures test { IfOk result (λ r. Denied (Nested nesting) r.0 rest.now r.1.now) }
+    ensures shorter { IfOk result (λ r. length r.1.now ≤ length rest.now) }
+{
+    if let Some(others) = after(rest, '(') {
+        return nested(arena, rest, others, nesting);
+    }
+    match singular(arena, rest)? {
+        Some((query, others)) => Ok((Test::Exists(query), others)),
+        None => Err(Stop::at(rest, without_pattern(rest, PathExpected::Denied))),
+    }
+}
+
+// A test and `)`, after a `(` at the beginning of `rest`.
+#[cycle(tests)]
+fn nested<'path, 't, A: Allocator>(
+    arena: &'path Bump<A>,
+    rest: &'t str,
+    others: &'t str,
+    nesting: usize,
+) -> Result<(Test<'path>, &'t str), Stop>
+    requires { Mark left_parenthesis rest.now others.now }
+    ensures test { IfOk result (λ r. Nested nesting r.0 rest.now r.1.now) }
+    ensures shorter { IfOk result (λ r. length r.1.now ≤ length others.now) }
+{
+    if nesting == 0 {
+        return Err(Stop::at(rest, PathExpected::LessNesting));
+    }
+    let (test, behind) = logical(arena, skip_blanks(others), nesting - 1)?;
+    Ok((test, closed(behind)?))
+}
+
+// A comparison, or a query.
+fn compared<'path, 't, A: Allocator>(
+    arena: &'path Bump<A>,
+    rest: &'t str,
+    nesting: usize,
+) -> Result<(Test<'path>, &'t str), Stop>
+    ensures test { IfOk result (λ r. Basic (Nested nesting) r.0 rest.now r.1.now) }
+    ensures shorter { IfOk result (λ r. length r.1.now ≤ length rest.now) }
+{
+    let (left, others) = comparable(arena, rest, PathExpected::Test, nesting)?;
+    let end = skip_blanks(others);
+    if let Some((comparison, behind)) = operator(end) {
+        let begin = skip_blanks(behind);
+        let (right, behind) = comparable(arena, begin, PathExpected::Comparable, nesting)?;
+        return Ok((Test::Compare(left, comparison, right), behind));
+    }
+    match left {
+        Comparable::Query(query) => Ok((Test::Exists(query), others)),
+        _ => Err(Stop::at(end, PathExpected::Comparison)),
+    }
+}
+
+// The operator of a comparison, and what is after it.
+fn operator(rest: &str) -> Option<(Comparison, &str)>
+    ensures operator { IfSome result (λ r. OperatorText r.0 rest.now r.1.now) }
+    ensures shorter { IfSome result (λ r. length r.1.now ≤ length rest.now) }
+{
+    if let Some(others) = word(rest, "==") {
+        return Some((Comparison::Equal, others));
+    }
+    if let Some(others) = word(rest, "!=") {
+        return Some((Comparison::NotEqual, others));
+    }
+    if let Some(others) = word(rest, "<=") {
+        return Some((Comparison::LessOrEqual, others));
+    }
+    if let Some(others) = word(rest, ">=") {
+        return Some((Comparison::GreaterOrEqual, others));
+    }
+    if let Some(others) = word(rest, "<") {
+        return Some((Comparison::Less, others));
+    }
+    let others = word(rest, ">")?;
+    Some((Comparison::Greater, others))
+}
