@@ -109,7 +109,7 @@ module _ {A : Type 0} (w : Wanted) (file : List ℕ) (picker : Picker A) {c : Cu
       → (at : IsAt w file picker c line first left held holds named names) → Moves c d line lines left after Block
       → Begins holds now picker.rows.items
       → (begun : HasBegun (picked_lines w file) first after held now named names)
-          × IsTaken w file (picked_lines w file) begun.input after picker.all_taken
+      × IsTaken w file (picked_lines w file) begun.input after picker.all_taken
   block-stopped lined d {lines} {after} {now} at moves begun =
       let block = at-block at.read moves in
       let h = first-but-last block.0 block.1 in
@@ -162,7 +162,7 @@ module _ {A : Type 0} (w : Wanted) (file : List ℕ) (picker : Picker A) {c : Cu
 pub done-stopped : {A : Type 0} (w : Wanted) (file : List ℕ) (picker : Picker A) {first left held holds named names now : Option (List ℕ)}
     → IsDone w file picker first left held holds named names → Begins holds now picker.rows.items
     → (begun : HasBegun (picked_lines w file) first left held now named names)
-        × IsTaken w file (picked_lines w file) begun.input left picker.all_taken
+    × IsTaken w file (picked_lines w file) begun.input left picker.all_taken
 done-stopped w file picker {first} {left} {held} {holds} {named} {names} {now} at begun = (
   record {
     input = at.input;

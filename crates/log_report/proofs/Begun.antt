@@ -39,9 +39,9 @@ grows-line w file r line =
     let taken : Grows n (cond (is_blank line) n answered) =
     grows-if (is_blank line) n n answered (grows-none n n refl) (grows-answer w file n line (answer line default_max_depth)) in
     let long : Grows n (with_counted_rejection w file n line None) =
-        record { more = rejection_line w file n.number line None; all = refl } in
+    record { more = rejection_line w file n.number line None; all = refl } in
     grows-then r n _ (grows-none r n refl) (grows-if (nat_lt w.longest (length line)) n
-        (with_counted_rejection w file n line None) _ long taken)
+    (with_counted_rejection w file n line None) _ long taken)
 
 pub rejections-grow : (w : Wanted) (file : List ℕ) (r : Report) (line : List ℕ)
     → (more : List ℕ) × (r.rejections ++ more ≡ (with_counted_line w file r line).rejections)

@@ -40,7 +40,7 @@ begins-part : (held holds : Option (List ℕ)) (w : Wanted) (file : List ℕ) (r
     → Begins held holds (with_part w r (file, h.input)).rejections
 begins-part held holds w file r done h =
     begins-lines (with_counted_line w file) (λ r. r.rejections) (rejections-grow w file) held holds
-        (record r { number = 0 }) done h.rest _ h.all
+    (record r { number = 0 }) done h.rest _ h.all
 
 module _ {A E R : Type 0} (remaining : R → Option (List ℕ)) (naming : E → Option (List ℕ)) (old lines : Lines A)
     (reader reads : Watched R) (rejections rejects : Watched E) (file : List ℕ) (c : Cut) (line : List ℕ) where

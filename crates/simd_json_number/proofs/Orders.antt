@@ -92,7 +92,7 @@ module _ (xs ys : List ℕ) (k l : ℕ) (e f apart : ℤ) (some : 0 < slice_inde
   level-first none =
       let level = first-level (length xs) (length ys) k l e f apart are none in
       let places = max-cases (length xs) (length ys) ((e -ℤ pos k) -ℤ (f -ℤ pos l)) ((f -ℤ pos l) -ℤ (e -ℤ pos k))
-          (omega (arith, ints)) level in
+      (omega (arith, ints)) level in
       let n = max (length xs) (length ys) in
       let here : length xs + above e k f l ≡ n = omega arith in
       let there : length ys + above f l e k ≡ n = omega arith in

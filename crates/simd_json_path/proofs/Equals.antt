@@ -148,7 +148,7 @@ keys-some : (ms : Members) → list_all (λ name. is_some (first_with name ms)) 
 keys-some no_members = refl
 keys-some (member k d ms) =
     ap (λ b. is_some (cond b (Some d) (first_with k ms)) && list_all (λ name. is_some (first_with name (member k d ms))) (keys ms))
-        (bytes-own k)
+    (bytes-own k)
     ∙ some-more k d ms (keys ms) (keys-some ms)
 
 -- a name of an object that has it

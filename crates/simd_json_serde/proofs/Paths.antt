@@ -294,7 +294,7 @@ module _ (ns : List Node) (node at : ℕ) (n : Node) (within : at < length ns) (
   other-at (string t) h is = scalar (string t) _ refl (λ depth m. refl) h
   other-at (array ds) h is =
       absurd (false≢true (sym is ∙ ap (λ y. is_some (array_count y))
-          (read-is ns at n (array_item _ _) (elements_listing ds) within read h)))
+      (read-is ns at n (array_item _ _) (elements_listing ds) within read h)))
   other-at (object ms) h is = record {
     members = ms;
     begin = behind-at ns at (object_item _ _ ∷ []) (members_listing ms) h;
@@ -342,7 +342,7 @@ pub ends-none : (ns : List Node) (node : ℕ) (whole appended : List ℕ) (at le
     → appended ≡ whole
 ends-none ns node whole appended at left r none =
     sym (append-nil appended) ∙ ap (λ p. appended ++ p) (sym (ap (λ n. way r.document n (node - at)) none
-        ∙ way-none r.document (node - at)))
+    ∙ way-none r.document (node - at)))
     ∙ r.same
 
 pub ends-step : (ns : List Node) (node : ℕ) (whole old new : List ℕ) (at left : ℕ) (r : IsOnWay ns node whole old at left)

@@ -32,7 +32,7 @@ stands_beneath ns at d n rest got h =
 -- a header is taken, and its container entered
 pub opened : {E : Type 0} (r : Result Unit E) (header : ℕ → ℕ → Item) (old mid new : Place) (n : Node) (len count : ℕ)
     → IsNodeTaken old n mid → item_of n ≡ header len count → OnOk r
-        (new ≡ record mid { end = mid.at + count; outer = mid.outer ++ mid.end ∷ [] })
+    (new ≡ record mid { end = mid.at + count; outer = mid.outer ++ mid.end ∷ [] })
     → OnOk r (Opens old header new)
 opened (Ok u) header old mid new n len count taken is entered = (
   n,

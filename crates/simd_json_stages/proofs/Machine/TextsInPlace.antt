@@ -99,7 +99,7 @@ pub lies-there : (bytes : List ℕ) (i n end : ℕ) (item : Item) → text_of it
     → IsUtf8 (take n (drop i bytes)) → LiesBefore bytes end (record { at = i; item = item })
 lies-there bytes i n end item is ends fits utf8 =
     let size : length (text_of item) ≡ n = ap length is ∙ length-take-le n (drop i bytes)
-        (omega (arith, length-drop i bytes, ends, fits)) in
+    (omega (arith, length-drop i bytes, ends, fits)) in
     record {
       before = omega (arith, size, ends);
       there = ap (λ k. take k (drop i bytes)) size ∙ sym is;

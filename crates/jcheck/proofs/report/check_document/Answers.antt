@@ -13,7 +13,7 @@ returns-in_err-map_err-clause-stopped g c =
     let failed = failed-as c.finish.result c.map_err.result _ (λ e. is_of_output e ≡ true) _ c.map_err.ensures.cases c.in_err-map_err.was
     (λ e d h. search rules) in
     let whole = whole_text c.args.file.now c.args.style c.args.checker.now.depth c.args.input.now
-        (found_in c.args.input.now c.args.checker.now.depth) in
+    (found_in c.args.input.now c.args.checker.now.depth) in
     let put = c.put_whole-put.ensures in
     let stopped =
     failed-written c.finish.result {old = c.args.out.now.failed} _ _ c.put_whole-put.result whole p.0
@@ -24,7 +24,7 @@ pub returns-in_err-put-clause-stopped : goal.returns-in_err-put-clause-stopped
 returns-in_err-put-clause-stopped g c =
     let p = err_from_is_err_and c.from_residual-in_err-put.result c.from_residual-in_err-put.ensures.1 in
     let whole = whole_text c.args.file.now c.args.style c.args.checker.now.depth c.args.input.now
-        (found_in c.args.input.now c.args.checker.now.depth) in
+    (found_in c.args.input.now c.args.checker.now.depth) in
     let stopped =
     part-written c.finish.result {old = c.args.out.now.failed} _ _ whole p.0 p.2 (search rules) c.requires
     c.new-text.ensures.empty c.in_err-put.ensures.stopped c.finish.ensures in
@@ -33,7 +33,7 @@ returns-in_err-put-clause-stopped g c =
 pub returns-clause-written : goal.returns-clause-written
 returns-clause-written g c =
     let whole = whole_text c.args.file.now c.args.style c.args.checker.now.depth c.args.input.now
-        (found_in c.args.input.now c.args.checker.now.depth) in
+    (found_in c.args.input.now c.args.checker.now.depth) in
     let written =
     all-written c.finish.result {old = c.args.out.now.failed} _ _ whole (search rules) c.requires c.new-text.ensures.empty
     c.in_ok-put.ensures.put c.finish.ensures in

@@ -23,5 +23,5 @@ loop-selector-preserved c =
 pub returns : goal.returns
 returns c =
     extends-all (after_mark (tab ∷ []) (column c.args.wanted.now
-        (doc c.args.value))) c.args.selectors.now c.loop-selector.selector-index _ _ (omega arith)
+    (doc c.args.value))) c.args.selectors.now c.loop-selector.selector-index _ _ (omega arith)
     c.loop-selector.invariant

@@ -8,4 +8,4 @@ use Rattle.log_report.proofs.rows.append_others.Given as goal
 abbrev pub invariant-loop-selector : goal.invariant-loop-selector
 invariant-loop-selector l =
     Extends l.fn.row.items l.row.items (flat_map (after_mark (tab ∷ []) (column l.wanted (doc l.value)))
-        (take l.selector-index l.selectors))
+    (take l.selector-index l.selectors))

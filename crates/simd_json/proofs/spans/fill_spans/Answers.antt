@@ -38,7 +38,7 @@ returns-clause-parse g c =
     let listed = ap (λ r. r.index.listed) c.buffers.view_is ∙ scan.listed in
     let few = subst (λ n. OnOk r (length held ≤ n)) (ap length (c.scanned.ensures.indexes ∙ listed))
     (subst (λ n. OnOk r (n ≤ length c.scanned.result.structural_indexes.now))
-        (sym (length-map placed (λ (p : Placed). p.item))) c.build_spans.ensures.few) in
+    (sym (length-map placed (λ (p : Placed). p.item))) c.build_spans.ensures.few) in
     subst (λ limit. IsParse b limit (capacity c.args.buffers.now) (result_err r) (nodes_written r held) c.buffers.inside.index.listed)
     (ap (λ r. r.limit) c.buffers.view_is ∙ c.in_ok-find_positions.ensures.limit)
     (parse-written r b c.buffers.inside.max_depth _ held _ scan.whole c.build_spans.ensures.built few c.build_spans.ensures.rejected listed)

@@ -53,7 +53,7 @@ returns-clause-value c =
     let m = c.max-places.result - c.count_digits-right_count.result in
     c.loop-place.invariant.so_far
     ∙ ap (λ a. clamped (number_of (has_minus left) a -ℤ number_of (has_minus right)
-        (number_from_digits 10 (take c.loop-place.place (replicate m 0 ++ ys)))))
+    (number_from_digits 10 (take c.loop-place.place (replicate m 0 ++ ys)))))
     (all-taken n c.loop-place.place xs (omega arith))
     ∙ ap (λ b. clamped (number_of (has_minus left) (number_from_digits 10 xs) -ℤ number_of (has_minus right) b))
     (all-taken m c.loop-place.place ys (omega arith))

@@ -10,4 +10,4 @@ returns-then-byte-eq101 c =
 pub returns : goal.returns
 returns c =
     sym (position_or_len_is is_e c.args.bytes.now (length c.args.bytes.now) 0 (omega arith)
-        (λ k less. c.loop-index.invariant k (omega arith)) (λ less. absurd (omega arith)))
+    (λ k less. c.loop-index.invariant k (omega arith)) (λ less. absurd (omega arith)))

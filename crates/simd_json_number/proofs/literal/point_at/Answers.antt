@@ -10,4 +10,4 @@ returns-then-byte-eq46 c =
 pub returns : goal.returns
 returns c =
     sym (position_or_len_is is_point c.args.significand.now (length c.args.significand.now) 0 (omega arith)
-        (λ k less. c.loop-index.invariant k (omega arith)) (λ less. absurd (omega arith)))
+    (λ k less. c.loop-index.invariant k (omega arith)) (λ less. absurd (omega arith)))

@@ -24,8 +24,11 @@ returns-then-apart-gt0 c =
     let apart = c.first_apart-apart.ensures in
     let are : AreApart (length xs) (length ys) (length (digits l.fraction.now)) (length (digits r.fraction.now))
     (integer l.exponent.now) (integer r.exponent.now) c.first_apart-apart.result =
-    record { few = (omega arith, omega arith, apart.left, apart.right); is =
-        counted l r _ _ _ apart.value c.count_digits-left_count.ensures c.count_digits-right_count.ensures } in
+    record {
+      few = (omega arith, omega arith, apart.left, apart.right);
+      is =
+          counted l r _ _ _ apart.value c.count_digits-left_count.ensures c.count_digits-right_count.ensures;
+    } in
     sym (greater-first xs ys (length (digits l.fraction.now)) (length (digits r.fraction.now)) (integer l.exponent.now)
     (integer r.exponent.now) c.first_apart-apart.result (l.leading c.requires.left) (r.leading c.requires.right)
     (digits-below l.significant.now) (digits-below r.significant.now) are (omega (arith, ints)))
@@ -39,8 +42,11 @@ returns-then-apart-lt0 c =
     let apart = c.first_apart-apart.ensures in
     let are : AreApart (length xs) (length ys) (length (digits l.fraction.now)) (length (digits r.fraction.now))
     (integer l.exponent.now) (integer r.exponent.now) c.first_apart-apart.result =
-    record { few = (omega arith, omega arith, apart.left, apart.right); is =
-        counted l r _ _ _ apart.value c.count_digits-left_count.ensures c.count_digits-right_count.ensures } in
+    record {
+      few = (omega arith, omega arith, apart.left, apart.right);
+      is =
+          counted l r _ _ _ apart.value c.count_digits-left_count.ensures c.count_digits-right_count.ensures;
+    } in
     sym (less-first xs ys (length (digits l.fraction.now)) (length (digits r.fraction.now)) (integer l.exponent.now)
     (integer r.exponent.now) c.first_apart-apart.result (l.leading c.requires.left) (r.leading c.requires.right)
     (digits-below l.significant.now) (digits-below r.significant.now) are (omega (arith, ints)))
@@ -54,8 +60,11 @@ returns c =
     let apart = c.first_apart-apart.ensures in
     let are : AreApart (length xs) (length ys) (length (digits l.fraction.now)) (length (digits r.fraction.now))
     (integer l.exponent.now) (integer r.exponent.now) c.first_apart-apart.result =
-    record { few = (omega arith, omega arith, apart.left, apart.right); is =
-        counted l r _ _ _ apart.value c.count_digits-left_count.ensures c.count_digits-right_count.ensures } in
+    record {
+      few = (omega arith, omega arith, apart.left, apart.right);
+      is =
+          counted l r _ _ _ apart.value c.count_digits-left_count.ensures c.count_digits-right_count.ensures;
+    } in
     let same-max : max c.count_digits-left_count.result c.count_digits-right_count.result ≡ max (length xs) (length ys) =
     ap (λ k. max k c.count_digits-right_count.result) c.count_digits-left_count.ensures
     ∙ ap (max (length xs)) c.count_digits-right_count.ensures in

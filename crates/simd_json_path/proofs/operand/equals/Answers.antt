@@ -17,7 +17,7 @@ pub returns-in-Literal : goal.returns-in-Literal
 returns-in-Literal c =
     c.equals_scalar.ensures
     ∙ scalar-equals (literal_value c.in-Literal.literal) (scalar_value c.of_literal.result) (operand_value c.args.right)
-        (sym c.of_literal.ensures)
+    (sym c.of_literal.ensures)
     ∙ ap (λ o. equals (operand_value o) (operand_value c.args.right)) (sym c.in-Literal.is)
 
 pub returns-in-Count : goal.returns-in-Count

@@ -11,7 +11,7 @@ returns-in_default-element_around c = λ d h.
     let before : a.at < a.node = omega (arith, c.if-at-node.false) in
     let r = array-at a.nodes.now a.node a.at c.in-Some.value.now there.3.0 there.1 before d h (sym c.if-is_array.ensures) in
     let none = c.in_default-element_around.ensures r.elements r.begin (omega (arith, c.after-end.ensures.value d h, r.long))
-        (omega (arith, before)) in
+    (omega (arith, before)) in
     (refl, no-token d (a.node - a.at) (λ depth. r.same depth ∙ none depth))
 
 pub returns-then-is_array : goal.returns-then-is_array
@@ -21,7 +21,7 @@ returns-then-is_array c = λ d h.
     let before : a.at < a.node = omega (arith, c.if-at-node.false) in
     let r = array-at a.nodes.now a.node a.at c.in-Some.value.now there.3.0 there.1 before d h (sym c.if-is_array.ensures) in
     let found = c.in-Some-element_around.ensures r.elements r.begin (omega (arith, c.after-end.ensures.value d h, r.long))
-        (omega (arith, before)) in (
+    (omega (arith, before)) in (
       found.0,
       found.1,
       λ depth.
@@ -37,7 +37,7 @@ returns-in_default-member_around c = λ d h.
     let before : a.at < a.node = omega (arith, c.if-at-node.false) in
     let r = other-at a.nodes.now a.node a.at c.in-Some.value.now there.3.0 there.1 before d h (sym c.if-is_array.ensures) in
     let none = c.in_default-member_around.ensures r.members r.begin (omega (arith, c.after-end.ensures.value d h, r.long))
-        (omega (arith, before)) in
+    (omega (arith, before)) in
     (refl, no-token d (a.node - a.at) (λ depth. r.same depth ∙ none depth))
 
 pub returns : goal.returns
@@ -47,7 +47,7 @@ returns c = λ d h.
     let before : a.at < a.node = omega (arith, c.if-at-node.false) in
     let r = other-at a.nodes.now a.node a.at c.in-Some.value.now there.3.0 there.1 before d h (sym c.if-is_array.ensures) in
     let found = c.in-Some-member_around.ensures r.members r.begin (omega (arith, c.after-end.ensures.value d h, r.long))
-        (omega (arith, before)) in (
+    (omega (arith, before)) in (
       found.0,
       found.1,
       λ depth.

@@ -20,7 +20,7 @@ loop-element-preserved c =
           omega (arith, more, l.invariant.0)),
       λ ds h ends before.
           element-passed a.nodes.now a.end a.node (λ depth. elements_way ds 0 depth
-              (a.node - a.first)) l.element l.index c.after-next.result
+          (a.node - a.first)) l.element l.index c.after-next.result
           c.after-next.ensures.value c.loop-element-test.true (l.invariant.1 ds h ends before) (omega (arith, c.if-node-next.false)),
     )
 

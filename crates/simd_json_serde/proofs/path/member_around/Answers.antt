@@ -23,9 +23,12 @@ returns-then-node-next c = λ ms h ends before.
     member-found a.nodes.now a.end a.node all l.key c.after-next.result
     c.after-next.ensures.value c.loop-key-test.true (l.invariant ms h ends before) c.if-node-next.true in
     let e : Some c.in-Some.text.now ≡ Some found.name = c.in-Some.ensures ∙ string-there a.nodes.now a.node all l.key found in
-    let name : c.in-Some.text.now ≡ found.name = cc e in
-    (found.document, found.begin, λ depth. found.same depth ∙ ap (λ k. key_token k ++ way found.document depth (a.node - (l.key + 1)))
-        (sym name))
+    let name : c.in-Some.text.now ≡ found.name = cc e in (
+      found.document,
+      found.begin,
+      λ depth. found.same depth ∙ ap (λ k. key_token k ++ way found.document depth (a.node - (l.key + 1)))
+          (sym name),
+    )
 
 pub loop-key-smaller : goal.loop-key-smaller
 loop-key-smaller c = omega (arith, c.after-next.ensures.later, c.loop-key-test.true)

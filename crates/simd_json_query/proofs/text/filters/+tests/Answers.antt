@@ -16,8 +16,14 @@ conjunction-operands-preserved g t c =
             c.skip_blanks.ensures.blanks c.in-Some.ensures.word c.skip_blanks-in-Some.ensures.blanks),
         c.in_ok-next.ensures.test,
       ),
-      omega (arith, c.in_ok-next.ensures.shorter, c.skip_blanks-in-Some.ensures.shorter, c.in-Some.ensures.shorter,
-          c.skip_blanks.ensures.shorter, short),
+      omega (
+        arith,
+        c.in_ok-next.ensures.shorter,
+        c.skip_blanks-in-Some.ensures.shorter,
+        c.in-Some.ensures.shorter,
+        c.skip_blanks.ensures.shorter,
+        short,
+      ),
     )
 
 pub logical-operands-preserved : goal.logical-operands-preserved
@@ -31,8 +37,14 @@ logical-operands-preserved g t c =
             operand c.skip_blanks.ensures.blanks c.in-Some.ensures.word c.skip_blanks-in-Some.ensures.blanks),
         c.in_ok-next.ensures.test,
       ),
-      omega (arith, c.in_ok-next.ensures.shorter, c.skip_blanks-in-Some.ensures.shorter, c.in-Some.ensures.shorter,
-          c.skip_blanks.ensures.shorter, short),
+      omega (
+        arith,
+        c.in_ok-next.ensures.shorter,
+        c.skip_blanks-in-Some.ensures.shorter,
+        c.in-Some.ensures.shorter,
+        c.skip_blanks.ensures.shorter,
+        short,
+      ),
     )
 
 pub nested-returns-clause-test : goal.nested-returns-clause-test

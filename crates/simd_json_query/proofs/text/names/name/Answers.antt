@@ -7,6 +7,6 @@ name-preserved g c = (
   search rules,
   rw c.in_ok-push-2.ensures.bytes
       (named-more _ _ _ _ _ c.in-Some.next c.name.invariant.1
-          (sym c.is_in_name.ensures ∙ c.if-not-is_in_name.false) c.in-Some.ensures.character),
+      (sym c.is_in_name.ensures ∙ c.if-not-is_in_name.false) c.in-Some.ensures.character),
   omega (arith, c.in-Some.ensures.shorter, c.name.invariant.2),
 )

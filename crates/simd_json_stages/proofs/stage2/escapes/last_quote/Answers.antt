@@ -48,4 +48,4 @@ pub returns : goal.returns
 returns c b is string =
     let upto = c.back.invariant.upto b is string in
     sym (string.last c.back.last upto c.back.invariant.below (sym (here is c.requires.reads.1 string upto c.back.invariant.below)
-        ∙ c.back-test.false))
+    ∙ c.back-test.false))

@@ -5,5 +5,7 @@ use Rattle.simd_json_stages.proofs.stage2.spans.InPlaceBuilder.push_header.Goals
 pub invariant_of-self : goal.invariant_of-self
 invariant_of-self g c =
     let self = c.args.self.now in
-    record { laid = laid-more _ self.laid (no-text self.bytes.now self.at (header_of c.args.container 0 0)
-        (no-header-text c.args.container 0 0)) c.push_header.ensures.put }
+    record {
+      laid = laid-more _ self.laid (no-text self.bytes.now self.at (header_of c.args.container 0 0)
+          (no-header-text c.args.container 0 0)) c.push_header.ensures.put;
+    }
