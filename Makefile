@@ -46,7 +46,7 @@ jpick: proved-jpick
 	$(call put,jpick_main,jpick)
 build/jpick: jpick
 
-# proved-CRATE: a library is proved after those that it stands on, which crates.txt names, and beside all others.
+# proved-CRATE: a library is proved after those that it depends on, which crates.txt names, and beside all others.
 crates := $(shell sed -n 's/^\([a-z][a-z0-9_]*\).*:.*/\1/p' crates.txt)
 define proved
 .PHONY: proved-$(1)
@@ -58,9 +58,9 @@ $(foreach crate,$(crates),$(eval $(call proved,$(crate))))
 # All else waits longest for simd_json_stages, and then for simd_json, so these leave the processors to them.
 proved-simd_json_theorems proved-simd_json_print proved-jcheck: private nice = nice
 
-# The version, which the header has, and its first number.
+# The version, which the header has, and the part of it in the soname: before 1.0 each minor version may break programs.
 version := $(shell awk '/define SIMD_JSON_VERSION_(MAJOR|MINOR|PATCH)/ { v = v s $$3; s = "." } END { print v }' include/simd_json.h)
-major = $(firstword $(subst ., ,$(version)))
+abi := $(if $(filter 0.%,$(version)),$(basename $(version)),$(firstword $(subst ., ,$(version))))
 
 # The library for programs in C, static and shared. Each needs nothing beside it but malloc, realloc, free, memcpy and memset:
 # the toolchain's heap is in it, and the exports alone are visible.
@@ -74,12 +74,12 @@ library: proved-simd_json_c
 	objcopy --keep-global-symbols=$(parts)/exports --strip-unneeded $(parts)/all.o $(parts)/simd_json.o
 	rm -f $(into)/libsimd_json.a $(into)/libsimd_json.so*
 	ar rcs $(into)/libsimd_json.a $(parts)/simd_json.o
-	cc -shared -o $(into)/libsimd_json.so.$(version) $(parts)/simd_json.o -Wl,-soname,libsimd_json.so.$(major) \
+	cc -shared -o $(into)/libsimd_json.so.$(version) $(parts)/simd_json.o -Wl,-soname,libsimd_json.so.$(abi) \
 		-Wl,--version-script,simd_json.map -Wl,-z,relro,-z,now,-s
 	$(call links,$(into))
 
 # The names in a folder by which a loader and a linker look for the shared library.
-links = ln -sf libsimd_json.so.$(version) $(1)/libsimd_json.so.$(major) && ln -sf libsimd_json.so.$(major) $(1)/libsimd_json.so
+links = ln -sf libsimd_json.so.$(version) $(1)/libsimd_json.so.$(abi) && ln -sf libsimd_json.so.$(abi) $(1)/libsimd_json.so
 
 # The gate: proofs, programs, tests, and the must-fail edits of crates that have changed (scripts/gate.sh). Its last line is
 # 'N passed, M failed'. After it the programs that it built are run on the rows of tests/vectors and on inputs of which the lines
@@ -142,7 +142,7 @@ build/%/built: $(sources)
 bench: has-rt
 	MAKEFLAGS= SAVE=$(SAVE) sh bench/run.sh $(FILES)
 
-# CRATES, and those that they stand on, into the repository in the folder DIR.
+# CRATES, and those that they depend on, into the repository in the folder DIR.
 CRATES = simd_json
 vendor:
 	@REPLACE="$(REPLACE)" sh scripts/vendor.sh "$(DIR)" $(CRATES)
@@ -161,14 +161,14 @@ install: install-library
 	for program in $(released); do install -m 644 completions/simd_json.bash $(completions)/$$program || exit; done
 
 install-library:
-	test -e $(into)/libsimd_json.so || $(MAKE) library
+	test -e $(into)/libsimd_json.so.$(version) || $(MAKE) library
 	install -d $(under)/include $(under)/lib/pkgconfig $(under)/lib/cmake/simd_json $(under)/share/man/man3
 	install -m 644 include/simd_json.h include/simd_json.hpp $(under)/include/
 	install -m 644 $(into)/libsimd_json.a $(under)/lib/libsimd_json.a
 	install -m 755 $(into)/libsimd_json.so.$(version) $(under)/lib/
 	$(call links,$(under)/lib)
 	sed 's|@PREFIX@|$(abspath $(PREFIX))|; s|@VERSION@|$(version)|' simd_json.pc.in > $(under)/lib/pkgconfig/simd_json.pc
-	sed 's|@VERSION@|$(version)|; s|@MAJOR@|$(major)|' simd_json.cmake.in > $(under)/lib/cmake/simd_json/simd_jsonConfig.cmake
+	sed 's|@VERSION@|$(version)|; s|@ABI@|$(abi)|' simd_json.cmake.in > $(under)/lib/cmake/simd_json/simd_jsonConfig.cmake
 	install -m 644 man/simd_json.3 $(under)/share/man/man3/simd_json.3
 
 uninstall:
@@ -176,7 +176,7 @@ uninstall:
 	rm -f $(under)/bin/jpick $(under)/bin/log_report $(under)/share/man/man1/jpick.1 $(under)/share/man/man1/log_report.1
 	rm -f $(addprefix $(completions)/,$(released))
 	rm -f $(under)/include/simd_json.h $(under)/include/simd_json.hpp $(under)/lib/libsimd_json.a \
-		$(under)/lib/libsimd_json.so $(under)/lib/libsimd_json.so.$(major) $(under)/lib/libsimd_json.so.$(version) $(under)/lib/pkgconfig/simd_json.pc $(under)/share/man/man3/simd_json.3
+		$(under)/lib/libsimd_json.so $(under)/lib/libsimd_json.so.$(abi) $(under)/lib/libsimd_json.so.$(version) $(under)/lib/pkgconfig/simd_json.pc $(under)/share/man/man3/simd_json.3
 	rm -rf $(under)/lib/cmake/simd_json
 
 has-rt:

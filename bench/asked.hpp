@@ -1,14 +1,14 @@
-// The contenders that are asked for values: tasks, and typed reading. harness.cpp has what they are made of, and includes this.
+// The contenders that read values: tasks, and typed reading. harness.cpp has what they are made of, and includes this.
 #pragma once
 
-// What a task's sum is told as: negative where there is none.
-static int64_t told(uint64_t sum) { return sum == NONE ? -1 : int64_t(sum >> 2); }
+// A task's sum as it is compared: negative where there is none.
+static int64_t compared(uint64_t sum) { return sum == NONE ? -1 : int64_t(sum >> 2); }
 
-// Each makes its buffers at the first text. `over` reads the first so many copies.
+// Each makes its buffers at the first text. `over` reads the first `count` copies.
 static void add_asked(std::vector<Contender> &all, const std::string &name, std::function<uint64_t(const Copies &, size_t)> over) {
     all.push_back({Contender::Asked, name, [over](const Copies &c, size_t count) -> int64_t {
                        try {
-                           return told(over(c, count));
+                           return compared(over(c, count));
                        } catch (...) {
                            return -1;
                        }
@@ -85,7 +85,8 @@ template <unsigned FLAGS> static void add_rapidjson_task(std::vector<Contender> 
 #endif
 
 static void add_our_tasks(std::vector<Contender> &all, Task task, const std::string &level, const std::string &path) {
-    for (auto way : {"tape", "find", "check"}) {
+    bool is_query = task == Amounts || task == AmountsBeneath;
+    for (auto way : is_query ? std::vector{"tape", "path"} : std::vector{"tape", "find", "check"}) {
         std::string name = std::string("simd_json_bench_") + way, shown = std::string("simd_json ") + way + ", " + level;
         if (task == LogLines) {
             auto *over = symbol<uint64_t(uint8_t *, size_t)>(path, (name + "_lines").c_str());

@@ -10,7 +10,7 @@
 // Writes a line for each text and contender: its path, its bytes, what is timed, the contender, and the nanoseconds of a
 // byte at the fastest round, or `-` where the text was rejected. Libraries of one LEVEL that differ in where the code lies are
 // contenders of one name, with a line each. A contender that is not installed is named on standard error. Those who count,
-// count the same, or nothing is told: that is the test that each did the work.
+// count the same, or nothing is printed: that is the test that each did the work.
 #include <dlfcn.h>
 #include <malloc.h>
 #include <simd_json.h>
@@ -81,7 +81,7 @@ class Copies {
     uint8_t *first;
 };
 
-// Reads the first so many copies. What it counted in them (0: it does not count), negative where one was rejected.
+// Reads the first `count` copies. Returns what it counted in them (0: it does not count), negative where one was rejected.
 using Read = std::function<int64_t(const Copies &, size_t)>;
 
 static const char *const PARTS[] = {"parse", "scan", "task"};
@@ -284,7 +284,7 @@ static void add(std::vector<Contender> &all, const std::string &word) {
     else stop("no contender " + word);
 }
 
-// Those of the words that are there. They are made anew for each text, so that none keeps the memory of a large one.
+// Those of the words that are there. They are made for each text, so that none keeps the memory of a large one.
 static std::vector<Contender> contenders(const std::vector<std::string> &words) {
     static std::vector<std::string> absent;
     std::vector<Contender> all;
@@ -305,7 +305,7 @@ static double clock_now() {
     return double(now.tv_sec) * 1e9 + double(now.tv_nsec);
 }
 
-// One sample: so many copies, made anew outside the clock.
+// One sample: `count` copies, made outside the clock.
 static double nanoseconds(Contender &c, Copies &copies, size_t count, int64_t &counted) {
     copies.renew();
     double start = clock_now();
@@ -322,9 +322,9 @@ static void sample(Contender &c, Copies &copies, int64_t (&nodes_or_positions)[3
     }
     if (counted >= 0) c.fastest_all = std::min(c.fastest_all, nanoseconds(c, copies, copies.count, counted));
     c.has_rejected = counted < 0;
-    int64_t &told = nodes_or_positions[c.part];
-    if (counted > 0 && told > 0 && counted != told) stop(c.name + " counts otherwise than those before it");
-    if (counted > 0) told = counted;
+    int64_t &before = nodes_or_positions[c.part];
+    if (counted > 0 && before > 0 && counted != before) stop(c.name + " counts otherwise than those before it");
+    if (counted > 0) before = counted;
 }
 
 static void race(const std::string &path, size_t rounds, const std::vector<std::string> &words) {

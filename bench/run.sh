@@ -28,11 +28,7 @@ fi
 # Ours, at each level: a static library, and that as shared ones, so that all fit into one process. Where the linker puts the
 # code, 16 bytes up or down, can change what a text costs by half, and is chance. So the code is linked behind 0, 16, 32 bytes
 # of padding and so on, each of these is timed, and the tables have the median. The others are timed where they lie.
-# static CRATE: the crate at $level as a static library. shared CRATE: that as a shared one, behind the padding.
-static() {
-    (cd "crates/$1" && rt lib --cpu "$level") > "$OUT/$level.log" || { tail -n 20 "$OUT/$level.log" >&2; exit 1; }
-    cp "crates/$1/out/lib$1.a" "$OUT/$1-$level.a"
-}
+# shared CRATE: the crate at $level as a shared library, behind the padding.
 shared() {
     cc -shared -o "$OUT/$1-$level-$placement.so" "$OUT/padding.o" -Wl,--whole-archive "$OUT/$1-$level.a" -Wl,--no-whole-archive \
         "$KIT/c/liblibc_c.a" "$KIT/c/libos_c.a" -Wl,-Bsymbolic
@@ -42,10 +38,11 @@ calls=
 scans=
 rejections=
 for level in $levels; do
-    say "proving and building the library at $level"
-    static simd_json_bench
-    static simd_json_typed_bench
-    make -s library CPU="$level" into="$OUT/c-$level" > "$OUT/c-$level.log" 2>&1 || { tail -n 20 "$OUT/c-$level.log" >&2; exit 1; }
+    # All that is not proved yet is proved side by side, at the first level; the second takes these proofs. Each level's static
+    # libraries are written to the same files, so they are copied.
+    say "proving and building the libraries at $level"
+    make -s proved-simd_json_bench proved-simd_json_typed_bench library CPU="$level" into="$OUT/c-$level" >&2
+    for crate in simd_json_bench simd_json_typed_bench; do cp "crates/$crate/out/lib$crate.a" "$OUT/$crate-$level.a"; done
     tasks=
     typed=
     placement=0
@@ -101,7 +98,7 @@ say "timing"
 # shellcheck disable=SC2086
 "$OUT/harness" "$ROUNDS" "$OUT/texts/lines/log.jsonl" -- simdjson many $stream $parses > "$OUT/lines.tsv"
 : > "$OUT/tasks.tsv"
-for task in 0:twitter.json 1:twitter.json 2:twitter.json 3:twitter.json 4:citm_catalog.json 5:canada.json 6:canada.json 7:log.jsonl; do
+for task in 0:twitter.json 1:twitter.json 2:twitter.json 3:twitter.json 4:citm_catalog.json 5:canada.json 6:canada.json 7:log.jsonl 8:citm_catalog.json 9:citm_catalog.json; do
     words=
     for contender in simdjson rapidjson $tasks; do words="$words ${task%%:*}:$contender"; done
     # shellcheck disable=SC2086

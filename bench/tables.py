@@ -106,7 +106,7 @@ def table_of_sizes(results, step=1):
 
 
 def means(*parts, ours=True):
-    """Of ours, at each level, with buffers kept and made anew, or of the others: the mean over all texts."""
+    """Of ours, at each level, with buffers kept and new, or of the others: the mean over all texts."""
     return "; ".join(
         f"{contender.removeprefix('simd_json ')} {shown(mean([of.ratio(t, contender) for of in parts for t in of.sizes]))}"
         for contender in parts[0].contenders("parse", ours)
@@ -197,21 +197,20 @@ def main():
     whole, scan = ("simdjson's best DOM parse", "its best stage 1") if kinds.has_simdjson() else ("the fastest", "the fastest")
     is_page = sys.argv[-1].endswith(".md")
     text = (
-        f"Speed at the fastest round, ours at x86-64-v3 where the processor has it, as a multiple: of a whole parse over {whole}, "
-        f"of a scan over {scan}.\n\n"
+        f"Speed of a whole parse over {whole}, of a scan over {scan}, ours at x86-64-v3 where the processor has it.\n\n"
         f"{table_of_kinds(kinds, LEFT_OUT if is_page else ())}\n\n"
         f"Geometric mean of the others: {means(kinds, ours=False) or 'none is installed'}.\n\n"
-        f"Geometric mean over forty different texts of 24 kB of each kind, one after the other: {means(varied)}.\n\n"
+        f"Over forty different texts of 24 kB of each kind, one after the other: {means(varied)}.\n\n"
         f"Cost against size, over tweets: what a byte of {whole} takes, and our speed over it.\n\n"
         f"{table_of_sizes(sizes, 2 if is_page else 1)}\n\n"
         f"Geometric mean over these {len(kinds.sizes)} texts and {len(sizes.sizes)} sizes: {means(kinds, sizes)}.\n\n"
-        f"A log of {sum(log.sizes.values()) // 200:,} lines of 200 bytes, each line parsed by itself or all as one stream; the speed is "
-        f"over the fastest of {'simdjson' if log.has_simdjson() else 'all'}.\n\n"
+        f"A log of {sum(log.sizes.values()) // 200:,} lines of 200 bytes, line by line or as one stream, and the speed over the fastest "
+        f"of {'simdjson' if log.has_simdjson() else 'all'}.\n\n"
         f"{table_of_lines(log, is_page)}\n\n"
-        f"Tasks, by a kept tape, on demand (`find`) and on demand after a check; speed over the first column.\n\n"
+        f"Tasks, by a kept tape, on demand (`find`), on demand after a check, and by a query over a tape (`path`); speed over the first column.\n\n"
         f"{table_of_tasks(tasks)}\n\n"
-        f"The same for types that own or borrow their strings, by the toolchain's `serde_json`, Rust's, `simd_json_serde`, and the "
-        f"crate for Rust, which has {mean_of_crate(typed)} times the speed of Rust's `serde_json` in the geometric mean.\n\n"
+        f"Types that own or borrow their strings, by the toolchain's `serde_json`, Rust's, `simd_json_serde`, and the crate for Rust, "
+        f"which has {mean_of_crate(typed)} times the speed of Rust's `serde_json` in the geometric mean.\n\n"
         f"{table_of_typed(typed)}\n"
     )
     if not is_page:

@@ -1,4 +1,4 @@
-// Tasks: of a text some values are asked for, and a sum of them is told, on which all contenders agree. harness.cpp has it.
+// Tasks: each reads some values of a text, and returns a sum of them, on which all contenders agree. harness.cpp includes this.
 // The numbers and sums are those of crates/simd_json_bench/src/tasks.rt.
 #pragma once
 #include <algorithm>
@@ -15,10 +15,12 @@
 #include <rapidjson/document.h>
 #endif
 
-enum Task { PartialTweets, FindTweet, TopTweet, DistinctUsers, Catalogue, Literals, Floats, LogLines };
-static const char *const TASKS[] = {"partial tweets", "find tweet", "top tweet", "distinct users", "citm", "coordinates", "coordinates as f64", "log lines"};
+enum Task { PartialTweets, FindTweet, TopTweet, DistinctUsers, Catalogue, Literals, Floats, LogLines, Amounts, AmountsBeneath };
+static const char *const TASKS[] = {"partial tweets", "find tweet", "top tweet", "distinct users", "citm", "coordinates", "coordinates as f64", "log lines", "prices[*].amount", "..amount"};
 
 constexpr uint64_t WANTED = 505874901689851900, NONE = UINT64_MAX;
+// How often a text is asked for its amounts.
+constexpr int ASKED = 32;
 
 static inline uint64_t mark(std::string_view text) {
     return text.size() * 1000003 + (text.empty() ? 0 : uint8_t(text.front()) + uint8_t(text.back()));
@@ -32,7 +34,7 @@ static inline uint64_t distinct(std::vector<uint64_t> &ids) {
     return sum;
 }
 
-// The status is asked for at the level `error` alone.
+// The status is read at the level `error` alone.
 template <class Status> static uint64_t line_mark(std::string_view level, Status status) {
     if (level == "debug") return 1;
     if (level == "info") return 1000003;
@@ -108,6 +110,32 @@ static inline uint64_t catalogue(ondemand::document &root) {
     return sum;
 }
 
+static inline uint64_t amounts(ondemand::document &root) {
+    uint64_t sum = 0;
+    for (ondemand::object performance : root.find_field("performances").get_array())
+        for (ondemand::object price : performance.find_field("prices").get_array()) sum += uint64_t(price.find_field("amount"));
+    return sum;
+}
+
+static inline uint64_t amounts_beneath(ondemand::value value) {
+    uint64_t sum = 0;
+    ondemand::json_type type = value.type();
+    if (type == ondemand::json_type::array)
+        for (ondemand::value one : value.get_array()) sum += amounts_beneath(one);
+    if (type == ondemand::json_type::object)
+        for (auto field : value.get_object()) {
+            std::string_view key = field.unescaped_key();
+            sum += key == "amount" ? uint64_t(field.value()) : amounts_beneath(field.value());
+        }
+    return sum;
+}
+
+template <class One> static inline uint64_t asked(ondemand::document &root, One one) {
+    uint64_t sum = 0;
+    for (int i = 0; i < ASKED; i++, root.rewind()) sum += one(root);
+    return sum;
+}
+
 template <class Mark> static inline uint64_t coordinates(ondemand::document &root, Mark mark) {
     uint64_t sum = 0;
     for (auto feature : root.find_field("features"))
@@ -137,13 +165,15 @@ static inline uint64_t answer(Task task, ondemand::document &root, ondemand::par
     case Catalogue: return catalogue(root);
     case Literals: return coordinates(root, literal);
     case Floats: return coordinates(root, [](ondemand::value number) { return std::bit_cast<uint64_t>(double(number)); });
+    case Amounts: return asked(root, amounts);
+    case AmountsBeneath: return asked(root, [](ondemand::document &document) { return amounts_beneath(document.get_value()); });
     default: return NONE;
     }
 }
 }  // namespace on_demand
 #endif
 
-// The tasks over trees: `Get` says how a value of one is read. One that has not what it is asked for throws.
+// The tasks over trees: `Get` says how a value of one is read. One without it throws.
 template <class Get> struct Tree {
     using Value = typename Get::Value;
 
@@ -187,6 +217,21 @@ template <class Get> struct Tree {
         return sum;
     }
 
+    static uint64_t amounts(Value root) {
+        uint64_t sum = 0;
+        for (Value performance : Get::array(Get::at(root, "performances")))
+            for (Value price : Get::array(Get::at(performance, "prices"))) sum += Get::number(Get::at(price, "amount"));
+        return sum;
+    }
+
+    static uint64_t amounts_beneath(Value value) {
+        uint64_t sum = 0;
+        Get::each_child(value, [&](std::string_view key, Value child) {
+            sum += key == "amount" ? Get::number(child) : amounts_beneath(child);
+        });
+        return sum;
+    }
+
     template <class Mark> static uint64_t coordinates(Value root, Mark mark) {
         uint64_t sum = 0;
         for (Value feature : Get::array(Get::at(root, "features")))
@@ -211,6 +256,12 @@ template <class Get> struct Tree {
         case Catalogue: return catalogue(root);
         case Literals: return coordinates(root, Get::literal);
         case Floats: return coordinates(root, [](Value number) { return std::bit_cast<uint64_t>(Get::real(number)); });
+        case Amounts:
+            for (int i = 0; i < ASKED; i++) sum += amounts(root);
+            return sum;
+        case AmountsBeneath:
+            for (int i = 0; i < ASKED; i++) sum += amounts_beneath(root);
+            return sum;
         case LogLines: return line_mark(Get::text(Get::at(root, "level")), [&] { return Get::number(Get::at(root, "status")); });
         }
         return NONE;
@@ -228,6 +279,13 @@ struct Dom {
     static double real(Value v) { return v; }
     static bool is_null(Value v) { return v.is_null(); }
     static uint64_t literal(Value) { return NONE; }
+    // An element has no key.
+    template <class On> static void each_child(Value v, On on) {
+        if (v.is_array())
+            for (Value one : simdjson::dom::array(v)) on({}, one);
+        else if (v.is_object())
+            for (auto [key, value] : simdjson::dom::object(v)) on(key, value);
+    }
 };
 #endif
 
@@ -253,5 +311,11 @@ struct Rapid {
     static double real(Value v) { return v.value->GetDouble(); }
     static bool is_null(Value v) { return v.value->IsNull(); }
     static uint64_t literal(Value v) { return v.value->GetStringLength(); }
+    template <class On> static void each_child(Value v, On on) {
+        if (v.value->IsArray())
+            for (auto &one : v.value->GetArray()) on({}, Value(one));
+        else if (v.value->IsObject())
+            for (auto &member : v.value->GetObject()) on(text(Value(member.name)), Value(member.value));
+    }
 };
 #endif

@@ -21,7 +21,7 @@ OTHER = "海の家 東京駅 ありがとう 朝ごはん 読む 雨 本日 пр
 
 
 class Source:
-    """What the texts are drawn from. Only `random()` is asked, whose numbers are the same in every Python."""
+    """What the texts are drawn from. Only `random()` is used, whose numbers are the same in every Python."""
 
     def __init__(self, seed):
         self.random = random.Random(seed).random

@@ -4,12 +4,12 @@ _simd_json() {
     COMPREPLY=()
     case $3 in
         --color) words='auto always never' ;;
-        --depth | --longest | --values | --and | --where | --where-not | --exists) return ;;
+        --depth | --longest | --values | --and | --where) return ;;
     esac
     case ${1##*/}:$2 in
         jtape:*) [ "$COMP_CWORD" -gt 1 ] || words='tape positions compact pretty lines' ;;
         jcheck:-*) words='--color --depth --help --lines --version' ;;
-        jpick:-*) words='--all --and --csv --depth --document --exists --header --help --json --longest --quiet --raw --tsv --version --where --where-not' ;;
+        jpick:-*) words='--all --and --csv --depth --document --header --help --json --longest --quiet --raw --tsv --version --where' ;;
         log_report:-*) words='--and --help --longest --tsv --values --version' ;;
     esac
     [ -z "$words" ] || mapfile -t COMPREPLY < <(compgen -W "$words" -- "$2")

@@ -50,10 +50,10 @@
 extern "C" {
 #endif
 
-/* The version of this header, as in `#if SIMD_JSON_VERSION >= 200`, and the version of the library that is linked. With the
- * same major number a program needs no new build (the soname has it). */
+/* The version of this header, as in `#if SIMD_JSON_VERSION >= 300`, and the version of the library that is linked. With the
+ * same soname a program needs no new build: before 1.0 the soname has the major and the minor number, later the major one alone. */
 #define SIMD_JSON_VERSION_MAJOR 0
-#define SIMD_JSON_VERSION_MINOR 2
+#define SIMD_JSON_VERSION_MINOR 3
 #define SIMD_JSON_VERSION_PATCH 0
 #define SIMD_JSON_VERSION (SIMD_JSON_VERSION_MAJOR * 10000 + SIMD_JSON_VERSION_MINOR * 100 + SIMD_JSON_VERSION_PATCH)
 uint32_t simd_json_version(void);
@@ -115,10 +115,10 @@ enum {
     SIMD_JSON_BOOL = 1,    /* value is 0 or 1 */
     SIMD_JSON_I64 = 2,     /* written with `-`, at least -2^63: (int64_t)value */
     SIMD_JSON_U64 = 3,     /* written without `-`, at most 2^64 - 1: value */
-    SIMD_JSON_I128 = 4,    /* a smaller one, at least -2^127: its literal, len bytes of text from value on */
+    SIMD_JSON_I128 = 4,    /* a smaller one, at least -2^127: its literal, len bytes of the input from value on */
     SIMD_JSON_U128 = 5,    /* a greater one, at most 2^128 - 1: its literal, in the same way */
     SIMD_JSON_DECIMAL = 6, /* a number with a fraction or an exponent: its literal, in the same way */
-    SIMD_JSON_STRING = 7,  /* a string or a key: its UTF-8 without escapes, in the same way */
+    SIMD_JSON_STRING = 7,  /* a string or a key: its UTF-8 without escapes, which the parse writes there */
     SIMD_JSON_ARRAY = 8,   /* len elements, and value nodes beneath */
     SIMD_JSON_OBJECT = 9   /* len pairs, and value nodes beneath */
 };
@@ -230,8 +230,9 @@ int32_t simd_json_open(simd_json_parser *parser, size_t max_depth);
  * fails, and none is made where an earlier check with the parser needed as much. PARSER_CLOSED: nothing but *place is written. */
 int32_t simd_json_parser_check(simd_json_parser *parser, const void *input, size_t len, simd_json_place *place);
 
-/* What a parser lends: the nodes of a document, in preorder, and the texts of its strings and literals, one after another. They
- * are the library's, must not be written, and are valid until the next call with the parser, simd_json_close included. */
+/* What a parser lends: the nodes of a document, in preorder. They are the library's, must not be written, and are valid until
+ * the next call with the parser, simd_json_close included. The texts of strings and literals are in the input, `text`, which
+ * must live and stay unchanged as long as they are read. */
 typedef struct {
     const simd_json_node *nodes;
     size_t nodes_len;
@@ -239,9 +240,10 @@ typedef struct {
     size_t text_len;
 } simd_json_document;
 
-/* Reads a document into memory that the parser keeps, and lends it. Writes *place. OVERWRITES the input.
+/* Reads a document into nodes that the parser keeps, and lends them. Writes *place. OVERWRITES the input: each string is decoded
+ * where it is, and bytes outside of the nodes' texts are unspecified afterwards, and need not be UTF-8.
  *
- * A document has no more nodes than bytes, and its texts together no more bytes than it. After each status but OK *document is
+ * A document has no more nodes than bytes. `text` is the input, and `text_len` its length. After each status but OK *document is
  * unchanged, and what was lent before is no longer valid. The parser stays open after each status, and keeps what it has
  * allocated. PARSER_CLOSED: nothing but *place is written. */
 int32_t simd_json_parser_parse(simd_json_parser *parser, void *input, size_t len, simd_json_document *document,

@@ -44,7 +44,7 @@ public:
         what_ += " at character " + std::to_string(place.index);
     }
 
-    /* The same with its line, column and reason: `text` is the input, as parser::parse has it. */
+    /* The same with its line, column and reason: `text` is the input as it was before the parse. */
     error(int32_t status, const simd_json_place &place, std::string_view text)
         : error(status, place) {
         char words[SIMD_JSON_REASON_MAX];
@@ -98,9 +98,10 @@ using array_view = members<false>;
 using object_view = members<true>;
 
 /* A value of a document, copied freely; one that is made of nothing is null. It is valid until its
- * parser parses again or is destroyed. Without NDEBUG it knows which parse it is of, and throws
- * std::logic_error where that is over; with NDEBUG it does not, since loops over a large document
- * take 4 to 117 % longer for it. */
+ * parser parses again or is destroyed, and as long as a text that was lent is unchanged: that is not
+ * tested (parser::parse). Without NDEBUG it knows which parse it is of, and throws std::logic_error
+ * where that is over; with NDEBUG it does not, since loops over a large document take 4 to 117 %
+ * longer for it. */
 class element {
     template <class T>
     static constexpr bool is_index = (std::is_integral_v<T> || std::is_enum_v<T>)
@@ -471,6 +472,10 @@ inline std::ostream &operator<<(std::ostream &out, const element &value) {
  * be moved, and the elements of its document with it; the one that it was moved from is closed, and
  * rejects each text with SIMD_JSON_PARSER_CLOSED. */
 class parser {
+    /* A string that may be moved from, and nothing that only converts to one. */
+    template <class String>
+    using if_string = std::enable_if_t<std::is_same_v<String, std::string>, int>;
+
 public:
     explicit parser(size_t max_depth = 1024) : state_(std::make_unique<state>()) {
         if (simd_json_open(&state_->parser, max_depth) != SIMD_JSON_OK)
@@ -488,10 +493,26 @@ public:
     }
     element parse(std::string_view) && = delete;
 
+    /* The same without a copy. The string is OVERWRITTEN, and strings and literals of the document
+     * are in it: it must stay where it is, unchanged, as long as elements are used. An error has its
+     * index, and neither line nor reason, since the text is lost; check() has them, or a copy. */
+    element parse(std::string &lent) & {
+        simd_json_place place;
+        check_status(try_parse(lent, place), place);
+        return root();
+    }
+
+    /* The same of a string that is moved into the parser, which keeps it with the document. */
+    template <class String, if_string<String> = 0> element parse(String &&owned) & {
+        simd_json_place place;
+        check_status(try_parse(std::move(owned), place), place);
+        return root();
+    }
+
     /* The same without exceptions but std::bad_alloc: after SIMD_JSON_OK root() is the document. Of
-     * another status error(status, place, text) has line, column and reason. */
+     * another status of a copy error(status, place, text) has line, column and reason. */
     int32_t try_parse(std::string_view text, simd_json_place &place) {
-        place = {0, SIMD_JSON_NO_CHARACTER};
+        place = nowhere;
         if (!state_)
             return SIMD_JSON_PARSER_CLOSED;
         if (text.size() > UINT32_MAX) {
@@ -499,7 +520,24 @@ public:
             return SIMD_JSON_INPUT_TOO_LARGE;
         }
         state_->copy(text);
-        return state_->parse(text.size(), place);
+        state_->forget();
+        return state_->parse(state_->input.get(), text.size(), place);
+    }
+    int32_t try_parse(std::string &lent, simd_json_place &place) {
+        place = nowhere;
+        if (!state_)
+            return SIMD_JSON_PARSER_CLOSED;
+        state_->forget();
+        return state_->parse(lent.data(), lent.size(), place);
+    }
+    template <class String, if_string<String> = 0>
+    int32_t try_parse(String &&owned, simd_json_place &place) {
+        place = nowhere;
+        if (!state_)
+            return SIMD_JSON_PARSER_CLOSED;
+        state_->forget();
+        state_->owned = std::move(owned);
+        return state_->parse(state_->owned.data(), state_->owned.size(), place);
     }
 
     /* Throws the first error of a text that is no document, or std::bad_alloc. The text is checked
@@ -511,11 +549,13 @@ public:
         check_status(try_check(text, place), place, text);
     }
     int32_t try_check(std::string_view text, simd_json_place &place) {
-        place = {0, SIMD_JSON_NO_CHARACTER};
+        place = nowhere;
         if (!state_)
             return SIMD_JSON_PARSER_CLOSED;
+        const int32_t status =
+            simd_json_parser_check(&state_->parser, text.data(), text.size(), &place);
         state_->forget();
-        return simd_json_parser_check(&state_->parser, text.data(), text.size(), &place);
+        return status;
     }
 
     /* The text of a document, or of the value in it that a JSON Pointer (RFC 6901) names, as
@@ -526,7 +566,7 @@ public:
         std::string kept, kept_pointer, out;
         own(text, kept);
         own(pointer, kept_pointer);
-        simd_json_place place{0, SIMD_JSON_NO_CHARACTER};
+        simd_json_place place = nowhere;
         size_t needed = text.size(); /* enough for compact text */
         int32_t status = !state_                      ? SIMD_JSON_PARSER_CLOSED
                          : text.size() > UINT32_MAX ? SIMD_JSON_INPUT_TOO_LARGE
@@ -550,7 +590,7 @@ public:
     void index(std::string_view text) {
         std::string kept;
         own(text, kept);
-        simd_json_place place{0, SIMD_JSON_NO_CHARACTER};
+        simd_json_place place = nowhere;
         int32_t status = SIMD_JSON_PARSER_CLOSED;
         if (state_) {
             state_->forget();
@@ -569,11 +609,12 @@ public:
         const std::optional<size_t> len = state_ ? state_->find(pointer) : std::nullopt;
         if (!len)
             return std::nullopt;
-        simd_json_place place;
-        const int32_t status = state_->parse(*len, place);
+        simd_json_place place = nowhere;
+        state_->forget();
+        const int32_t status = state_->parse(state_->input.get(), *len, place);
         if (status != SIMD_JSON_OK) { /* which has overwritten the text */
             state_->find(pointer);
-            check_status(status, place, {state_->input.get(), *len});
+            check_status(status, place, std::string_view(state_->input.get(), *len));
         }
         return root();
     }
@@ -589,12 +630,16 @@ public:
     element root() const && = delete;
 
 private:
-    /* Apart, so that elements keep their pointer to the document where the parser is moved. */
+    static constexpr simd_json_place nowhere{0, SIMD_JSON_NO_CHARACTER};
+
+    /* Apart, so that the document and what it is in stay where they are when the parser is moved: a
+     * short string has its bytes in itself. */
     struct state {
         simd_json_parser parser{};
         element::lent document;
-        std::unique_ptr<char[]> input;
+        std::unique_ptr<char[]> input; /* a copy of a text */
         size_t capacity = 0;
+        std::string owned; /* what was moved in, until the next text */
 
         state() = default;
         state(const state &) = delete;
@@ -608,8 +653,8 @@ private:
         }
         void copy(std::string_view text) {
             reserve(text.size());
-            if (!text.empty())
-                std::memcpy(input.get(), text.data(), text.size());
+            if (!text.empty()) /* of a string of the document, in the same memory */
+                std::memmove(input.get(), text.data(), text.size());
         }
         /* The length of the value that is found, which is at the front of the input then. */
         std::optional<size_t> find(std::string_view pointer) {
@@ -628,18 +673,19 @@ private:
         void forget() {
             static_cast<simd_json_document &>(document) = {};
             document.parses++;
+            std::string().swap(owned);
         }
-        int32_t parse(size_t len, simd_json_place &place) {
-            forget();
-            return simd_json_parser_parse(&parser, input.get(), len, &document, &place);
+        int32_t parse(char *text, size_t len, simd_json_place &place) {
+            return simd_json_parser_parse(&parser, text, len, &document, &place);
         }
     };
 
-    static void check_status(int32_t status, const simd_json_place &place, std::string_view text) {
+    template <class... Text>
+    static void check_status(int32_t status, const simd_json_place &place, Text... text) {
         if (status == SIMD_JSON_OUT_OF_MEMORY)
             throw std::bad_alloc();
         if (status != SIMD_JSON_OK)
-            throw error(status, place, text);
+            throw error(status, place, text...);
     }
 
     /* A string of the document, which the next call overwrites, becomes a copy. */

@@ -15,7 +15,7 @@
 typedef struct {
     simd_json_parser parser;
     size_t max_depth;
-    simd_json_document document; /* of the last parse */
+    simd_json_document document; /* of the last parse; its texts are in the input */
     char *input;
     struct open *open;
     size_t input_cap, open_cap;
@@ -200,7 +200,8 @@ static int prepare(memory *m, size_t max_depth, Py_ssize_t len) {
 /* While a longer input is read, other threads run. */
 enum { LONG = 1 << 16 };
 
-/* Parses a copy of the input, since that is overwritten, into the document, which the parser lends until its next call. */
+/* Parses a copy of the input, since that is overwritten, into the document. While `in_use` neither the parser nor the copy, in
+ * which the texts are, is used for another input; what becomes of the input itself does not matter. */
 static int parse(memory *m, PyObject *data, size_t max_depth) {
     simd_json_place place;
     text of;

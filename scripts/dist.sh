@@ -17,7 +17,7 @@ make -s install-library into="$v2" PREFIX="$to"
 # shellcheck disable=SC2016
 sed -i 's|^prefix=.*|prefix=${pcfiledir}/../..|; s|^Description:.*|&; the static library is for x86-64-v2|' \
     "$to/lib/pkgconfig/simd_json.pc"
-cp -P "$v3/libsimd_json.so.$version" "$v3/libsimd_json.so.${version%%.*}" "$to/lib/glibc-hwcaps/x86-64-v3/"
+cp -P "$v3"/libsimd_json.so.* "$to/lib/glibc-hwcaps/x86-64-v3/"
 
 # Each program in one file, with both levels.
 for program in "$@"; do

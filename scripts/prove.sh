@@ -3,7 +3,7 @@
 # functions, and one when it ends, with the time. Where there is nothing to prove it prints neither. All that `rt` prints is in
 # build/log/CRATE; where `rt` fails the end of that follows, and the status is 1.
 #
-# `rt` locks a crate and those below it, so two that stand on one crate would wait for each other. So each is proved in a
+# `rt` locks a crate and those below it, so two that depend on one crate would wait for each other. So each is proved in a
 # folder of its own, with links to what is proved below it. Its out/ is moved there, and back in the end.
 set -u
 crate=$1

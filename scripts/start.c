@@ -14,8 +14,8 @@ entry main_v2, main_v3;
 __asm__(".symver __libc_start_main, __libc_start_main@GLIBC_2.2.5");
 int __libc_start_main(entry *, int, char **, function *init, void (*fini)(void), void (*loader_fini)(void), void *stack_end);
 
-/* What each level asks the processor for as it begins, which glibc has from 2.33 on. `main` has asked already, so the answer is
- * that all is there. */
+/* What each level asks the processor for as it begins, which glibc has from 2.33 on. `main` has tested that already, so all is
+ * reported as there. */
 __attribute__((visibility("hidden"))) const unsigned *__x86_get_cpuid_feature_leaf(unsigned leaf) {
     static const unsigned all[] = {~0u, ~0u, ~0u, ~0u, ~0u, ~0u, ~0u, ~0u};
     (void)leaf;

@@ -1,5 +1,5 @@
 #!/bin/sh
-# Copies crates, simd_json if none is named, and those of this repository that they stand on, by crates.txt, into another
+# Copies crates, simd_json if none is named, and those of this repository that they depend on, by crates.txt, into another
 # repository's crates/, with what proving them needs (src, specs, proofs) and the licenses, and adds their lines to its crates.txt.
 # What is there already stays as it is. If a crate or a line with such a name is there and differs, or a crate that is named is not
 # here, says so, copies nothing, and ends with status 1. A line that it adds names the version, as a comment; with REPLACE=1 crates
@@ -30,7 +30,7 @@ for name in "${@:-simd_json}"; do
 done
 crates=$(cd "$ours" && . scripts/crates.sh && for name in "${@:-simd_json}"; do below "$name"; echo "$name"; done | awk '!seen[$0]++')
 
-# other CRATE WORDS: what is there is another, which is replaced or stands in the way.
+# other CRATE WORDS: what is there is another, which is replaced or prevents the copy.
 replaced=
 other() {
     there=$(copied "$1")

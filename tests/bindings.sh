@@ -19,10 +19,14 @@ run make -s library
 check='valgrind -q --leak-check=full --error-exitcode=1'
 command -v valgrind > /dev/null || { left_out="$left_out valgrind (not installed);"; check=; }
 
-# wrapper OPTION..: the program that calls the wrapper for C++, built so.
-wrapper() {
-    run c++ -Wall -Wextra -Werror -pedantic -Iinclude "$@" tests/c/wrapper.cpp \
-        build/libsimd_json.a -o "$room/wrapper"
+# by_wrapper OPTION..: the programs that call the wrapper for C++, built so, each run by $by.
+by_wrapper() {
+    for program in wrapper owners; do
+        run c++ -Wall -Wextra -Werror -pedantic -Iinclude "$@" tests/c/$program.cpp \
+            build/libsimd_json.a -o "$room/$program"
+        # shellcheck disable=SC2086
+        run $by "$room/$program"
+    done
 }
 
 # rejects CASE NAMED: that part of tests/c/must_not_compile.cpp must not compile; the first error names why.
@@ -56,20 +60,17 @@ if ! echo 'int main(void) { return 0; }' | cc $sanitized -x c - -o "$room/trial"
 fi
 
 if command -v c++ > /dev/null; then
+    by=$check
     for standard in 17 20; do
-        for build in -UNDEBUG -DNDEBUG; do
-            wrapper -std=c++$standard -O1 $build
-            # shellcheck disable=SC2086
-            run $check "$room/wrapper"
-        done
+        for build in -UNDEBUG -DNDEBUG; do by_wrapper -std=c++$standard -O1 $build; done
     done
-    if [ -n "$sanitized" ]; then
-        # shellcheck disable=SC2086
-        wrapper -std=c++20 $sanitized
-        run "$room/wrapper"
-    fi
+    by=
+    # shellcheck disable=SC2086
+    [ -z "$sanitized" ] || by_wrapper -std=c++20 $sanitized
     run c++ -std=c++17 -fsyntax-only -Wall -Wextra -Werror -Iinclude -DCASE=0 tests/c/must_not_compile.cpp
-    for case in 1 2 3; do rejects $case 'deleted.*parse'; done
+    for case in 1 2 3 11 12; do rejects $case 'deleted.*parse'; done
+    for case in 13 14; do rejects $case 'non-const lvalue reference'; done
+    rejects 15 'binding reference.*qualifier'
     for case in 4 5; do rejects $case 'deleted.*root'; done
     for case in 6 7; do rejects $case 'deleted.*element'; done
     rejects 8 'operator\[\]'

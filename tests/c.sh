@@ -22,7 +22,7 @@ by() {
 
 make -s library > "$room/log" 2>&1 || { tail -n 20 "$room/log"; exit 1; }
 flags='-std=gnu11 -O1 -Wall -Wextra -Werror -Iinclude'
-for program in rows calls lent mutants; do
+for program in rows calls lent changed mutants; do
     # shellcheck disable=SC2086
     cc $flags tests/c/$program.c build/libsimd_json.a -o "$room/$program"
 done
@@ -30,7 +30,7 @@ done
 cc $flags tests/c/memory.c build/libsimd_json.a -Wl,--wrap=malloc,--wrap=realloc,--wrap=free -o "$room/memory"
 # shellcheck disable=SC2086
 cc $flags -pthread tests/c/deep.c build/libsimd_json.a -o "$room/deep"
-for program in calls lent memory deep; do "$room/$program"; done
+for program in calls lent changed memory deep; do "$room/$program"; done
 by "$room/rows"
 
 if command -v python3 > /dev/null; then
@@ -44,7 +44,7 @@ fi
 
 if command -v valgrind > /dev/null; then
     check='valgrind -q --leak-check=full --error-exitcode=1'
-    for program in calls lent "mutants $room/answers"; do
+    for program in calls lent changed "mutants $room/answers"; do
         [ -e "$room/answers" ] || [ "$program" != "mutants $room/answers" ] || continue
         # shellcheck disable=SC2086
         $check "$room"/$program
@@ -55,18 +55,20 @@ else
     left_out="$left_out valgrind (not installed);"
 fi
 
-# The version is the header's everywhere, and the shared library has it in its names and at each symbol.
+# The version is the header's everywhere, and the shared library has its first two numbers, as long as the first is 0, in its soname
+# and at each symbol.
 version=$(sed -n 's/^#define SIMD_JSON_VERSION_[A-Z]* //p' include/simd_json.h | paste -sd.)
 for named in "CHANGELOG.md:## $version" "README.md:simd_json-$version-x86_64" "bindings/rust/Cargo.toml:version = \"$version\"" \
     crates/jcheck/src/options.rt:".version(\"$version\")" crates/jpick/src/options.rt:".version(\"$version\")" \
     crates/log_report/src/options.rt:".version(\"$version\")"; do
     grep -qF "${named#*:}" "${named%%:*}" || { echo "${named%%:*} has another version than $version"; exit 1; }
 done
-readelf -d "build/libsimd_json.so.$version" | grep -q "(SONAME).*\[libsimd_json.so.${version%%.*}\]" || { echo "no soname"; exit 1; }
-wrong=$(nm -D --defined-only build/libsimd_json.so | grep -v -e ' T simd_json_[a-z_]*@@SIMD_JSON_0$' -e ' A SIMD_JSON_0$' || true)
+abi=${version%.*}
+readelf -d "build/libsimd_json.so.$version" | grep -q "(SONAME).*\[libsimd_json.so.$abi\]" || { echo "no soname"; exit 1; }
+wrong=$(nm -D --defined-only build/libsimd_json.so | grep -v -e " T simd_json_[a-z_]*@@SIMD_JSON_$abi\$" -e " A SIMD_JSON_$abi\$" || true)
 [ -z "$wrong" ] || { echo "libsimd_json.so has other symbols: $wrong"; exit 1; }
 
-# The header's example, as it stands there, against what `make install` puts into a folder.
+# The header's example, as it is written there, against what `make install` puts into a folder.
 make -s install-library PREFIX="$room/installed"
 sed -n '/^ \*     }$/{s/^ \*     //p;q;};s/^ \*     //p' include/simd_json.h > "$room/example.c"
 grep -v -e '^/\*' -e '^$' examples/c/answer.c | cmp - "$room/example.c" || { echo "examples/c/answer.c is not the header's"; exit 1; }

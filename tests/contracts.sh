@@ -1,7 +1,8 @@
 #!/bin/sh
 # Each public function of a library (a crate with src/lib.rt that is proved) has an `ensures` clause, and so has each function that a
 # public trait asks for. Those below have none, each for the reason beside it. Silent where all is well, else a line for each function
-# that lacks a contract, for each exception that is not needed any more, and for each library of which no function is found; status 1.
+# that lacks a contract, for each exception that is not needed any more, for each library of which no function is found, and for each
+# name in docs/PROVED.md that is in no crate; status 1.
 set -u
 cd "$(dirname "$0")/.." || exit 1
 . scripts/crates.sh
@@ -76,5 +77,11 @@ awk 'NR == FNR { reason[$1 " " $2] = 1; next }
     $3 == "lacks" { used[$1 " " $2] = 1 }
     END { for (name in reason) if (!(name in used)) print "tests/contracts.sh: no exception is needed for " name }
 ' "$room/exceptions" "$room/all" >> "$room/wrong"
+
+# What docs/PROVED.md names is there: a file, or a word of code or of a definition.
+grep -o '`[A-Za-z_][A-Za-z_:/.]*`' docs/PROVED.md | tr -d '`' | sort -u | while read -r name; do
+    for file in "$name" "include/$name" "crates/$name" crates/*/"$name" crates/*/specs/"$name"; do [ ! -e "$file" ] || continue 2; done
+    case $name in *[/.]*) false ;; *) grep -rqw -e "${name##*::}" crates/*/src crates/*/specs ;; esac || echo "docs/PROVED.md: no $name"
+done >> "$room/wrong"
 cat "$room/wrong"
 [ ! -s "$room/wrong" ]

@@ -134,7 +134,7 @@ cd "$top"
 
 # Both levels: of the library the rows of tests/vectors, of the programs what is known of them, and which of two is begun.
 mkdir "$room/slow"
-cp "$at/lib/libsimd_json.so.${version%%.*}" "$room/slow/"
+cp "$at/lib/libsimd_json.so.${version%.*}" "$room/slow/"
 cc tests/c/rows.c "-I$at/include" "-L$at/lib" -lsimd_json -o "$room/rows"
 run env LD_LIBRARY_PATH="$room/slow" sh tests/rows.sh "$room/rows"
 run env SIMD_JSON_CPU=x86-64-v2 sh tests/statuses.sh "$at/bin/jtape" "$at/bin/log_report" "$at/bin/jpick" "$at/bin/jcheck"

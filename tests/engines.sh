@@ -185,7 +185,7 @@ while read -r command <&3; do
     esac
 done 3< commands
 
-# To an engine a rejected line is a failed part, where nothing stands between: parallel runs it again and prints it in the end,
+# To an engine a rejected line is a failed part, where nothing is between: parallel runs it again and prints it in the end,
 # Dask stops.
 [ "$with_parallel" = no ] || runs 2 'parallel --pipe --block 10M -k --retries 3 jtape lines < big.jsonl > out.jsonl'
 if [ "$with_dask" = yes ]; then

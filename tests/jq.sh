@@ -24,7 +24,7 @@ wrong() { different=1; printf '%s: %s\n' "$1" "$2"; }
 awk -F ' [|] ' '/^[|] to [|]/ { inside = 1; next } inside && /^$/ { exit } inside && !/^[|]---/ {
     split($2, ours, "`"); split($3, theirs, "`"); gsub(/\\[|]/, "|", theirs[2]); print ours[2] "\t" theirs[2]
 }' "$top/README.md" > "$room/tasks"
-[ "$(wc -l < "$room/tasks")" -eq 11 ] || wrong "README.md's tasks, wanted 11" "$(wc -l < "$room/tasks")"
+[ "$(wc -l < "$room/tasks")" -eq 13 ] || wrong "README.md's tasks, wanted 13" "$(wc -l < "$room/tasks")"
 
 if [ $# -gt 0 ]; then
     cd "$1" || exit 1

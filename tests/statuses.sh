@@ -174,7 +174,7 @@ for word in --help -h; do
 done
 for word in --version -V; do
     given '' "$word"
-    wanted "log_report $word" 0 'log_report 0.2.0\n' ''
+    wanted "log_report $word" 0 'log_report 0.3.0\n' ''
 done
 given '{}'
 said 'no key' 2 'KEY|POINTER'
@@ -270,14 +270,45 @@ awk 'BEGIN { printf "["; for (i = 0; i < 100000; i++) printf "%d,\n", i; print "
 status=$?
 wanted 'documents of 600 KB' 0 '99999\n99999\n' ''
 filtered='{"k":1}\n{"k":1.0}\n{"k":-0}\n{"k":0}\n{"k":[1]}\n{}\n'
-given "$filtered" --where /k=0 /k
+given "$filtered" --where '@.k == 0' /k
 wanted 'lines where a value is 0' 0 '0\n0\n' ''
-given "$filtered" --where /k=1 --exists /k /k
-wanted 'lines where a value is 1' 0 '1\n' ''
-given "$filtered" --where-not /k=1 --exists /k /k
-wanted 'lines where a value is not 1' 0 '1.0\n0\n0\n[1]\n' ''
-given "$filtered" --where /k/0=1 ''
+given "$filtered" --where '@.k == 1' /k
+wanted 'lines where a value is 1' 0 '1\n1.0\n' ''
+given "$filtered" --where '@.k' --where '!(@.k == 1)' /k
+wanted 'lines that pass two tests' 0 '0\n0\n[1]\n' ''
+given "$filtered" --where '@.k != 1' /k
+wanted 'lines where a value is not 1, or there is none' 0 '0\n0\n[1]\n\n' ''
+given "$filtered" --where '@.k[0] == 1' ''
 wanted 'lines where an element is 1' 0 '{"k":[1]}\n' ''
+given "$filtered" --where '!@.k' ''
+wanted 'lines without a value' 0 '{}\n' ''
+given '{"s":500,"l":"error"}\n{"s":499,"l":"error"}\n{"s":503,"l":"info"}\n{"s":"600","l":"error"}\n' --where '@.s >= 500 && @.l == "error"' ''
+wanted 'lines with an error above 499' 0 '{"s":500,"l":"error"}\n' ''
+selected='{"k":[{"n":"a"},{},{"n":[1]}]}\n{"k":[]}\n{}\n{"k":{"x":{"n":null}}}\n'
+given "$selected" '$.k[*].n'
+wanted 'a row for each value' 0 '"a"\n[1]\nnull\n' ''
+given "$selected" -r '$..n'
+wanted 'a row for each value beneath' 0 'a\n[1]\nnull\n' ''
+given "$selected" '$.k[0].n'
+wanted 'a singular path' 0 '"a"\n\n\n\n' ''
+given "$selected" '$["k"][-1]["n"]' --and '$.k[*].n'
+wanted 'columns of paths' 0 '[1]\t["a",[1]]\n\t[]\n\t[]\n\t[null]\n' ''
+given "$selected" --all '$.k' --and '$.k[*].n'
+wanted 'columns of paths, by --all' 0 '[{"n":"a"},{},{"n":[1]}]\t["a",[1]]\n{"x":{"n":null}}\t[null]\n' ''
+given "$selected" --all '$.k[*].n'
+wanted 'a row for each value, by --all' 0 '"a"\n[1]\nnull\n' ''
+given "$selected" --json '$.k[*].n'
+wanted 'a row for each value, by --json' 0 '["a"]\n[[1]]\n[null]\n' ''
+given "$selected" --csv --header '$.k[*].n' --and '/k/0/n'
+wanted 'columns of paths, by --csv --header' 0 '"$.k[*].n","/k/0/n"\n"[""a"",[1]]","a"\n"[]",\n"[]",\n"[null]",\n' ''
+given "$selected" --tsv '$.k[?@.n == "a"].n' --and '$.k[1:].n'
+wanted 'columns of paths, by --tsv' 0 '["a"]\t[[1]]\n[]\t[]\n[]\t[]\n[]\t[]\n' ''
+given '{"statuses":[{"user":{"name":"A"}},\n{"user":{"name":"B"}}]}' -r '$.statuses[*].user.name' -d
+wanted 'all names of a document' 0 'A\nB\n' ''
+given '[[[1]],[2]]' --depth 2 '$..*'
+wanted 'values beneath a line that is too deep' 1 '' '-:1:3: one container more than the depth limit [DepthLimitExceeded]\n'
+given '[[[1]],[2]]' --depth 3 '$..*'
+wanted 'values beneath, as deep as the limit' 0 '[[1]]\n[2]\n[1]\n1\n2\n' ''
 rows='{"k":"x\\ty","l":[1]}\n{"k":"\\""}\n[1,]\n'
 named='-:3:4: expected a value, found `]` [InternalError]\n'
 for option in -r --raw; do
@@ -310,22 +341,33 @@ for option in --tsv --csv; do
 done
 given "$rows" --tsv --csv /k
 said 'jpick --tsv --csv' 2 --csv
-for pointer in a '/~' '/a/~2'; do
-    given '1' "$pointer"
-    wanted "the pointer '$pointer'" 2 '' "jpick: \`$pointer\` is not a JSON Pointer\n"
+for query in a '/~' '/a/~2' @.a; do
+    given '1' "$query"
+    wanted "the query '$query'" 2 '' "jpick: \`$query\` is neither a JSON Pointer nor a JSONPath, which begins with \`\$\`\n"
 done
 given '1' /a --and b
-wanted 'a second query' 2 '' 'jpick: `b` is not a JSON Pointer\n'
+wanted 'a second query' 2 '' 'jpick: `b` is neither a JSON Pointer nor a JSONPath, which begins with `$`\n'
+given '1' '$.a['
+wanted 'a path that ends early' 2 '' 'jpick: `$.a[` is not a JSONPath: expected a selector at byte 4\n'
+given '1' /a --and '$.a[?match(@.b, "c")]'
+wanted 'a path with match' 2 '' 'jpick: `$.a[?match(@.b, "c")]` is not a JSONPath: expected a test without match or search at byte 5\n'
+given '1' '$..a' --depth 2000
+wanted 'a path with .. and a great depth' 2 '' 'jpick: depth 2000 and the segments of a JSONPath with `..` are together more than 1088\n'
 given '1' "$room/a"
 wanted 'a pointer that is the name of a file' 0 '\n' ''
 echo '[1]' > "$room/one"
 at=$(cd "$(dirname "$program")" && pwd)/$(basename "$program")
 (cd "$room" && "$at" one < one > out 2> err; echo $? > status)
 status=$(cat "$room/status")
-wanted 'a file in place of the query' 2 '' 'jpick: `one` is a file; the first word is the query, a JSON Pointer\n'
-for condition in /a /a= /a=x '/a=1 2'; do
-    given '1' --where "$condition" /a
-    wanted "the condition '$condition'" 2 '' "jpick: \`$condition\` is not a JSON Pointer, \`=\` and JSON\n"
+wanted 'a file in place of the query' 2 '' 'jpick: `one` is a file; the first word is the query, a JSON Pointer or a JSONPath\n'
+for row in '/status=500|a test at byte 0' '@.a = 1|&&, || or the end at byte 4' '@.a ==|a literal, a query or a function at byte 6' \
+    '@[*] == 1|a query of at most one node at byte 1' '|a test at byte 0'; do
+    given '1' --where "${row%%|*}" /a
+    wanted "the condition '$row'" 2 '' "jpick: \`${row%%|*}\` is not a condition, as \`@.status == 500\`: expected ${row#*|}\n"
+done
+for option in --where-not --exists; do
+    given '1' "$option" /a /a
+    said "jpick $option" 2 "$option"
 done
 "$program" /a < / > "$room/out" 2> "$room/err"
 status=$?

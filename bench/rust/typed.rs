@@ -1,6 +1,6 @@
 //! Typed reading, of the types and with the sums of crates/simd_json_typed_bench.
 use serde::Deserialize;
-use simd_json_proved::{from_slice_with, Buffers};
+use simd_json_proved::{from_slice_mut_with, Buffers};
 
 #[derive(Deserialize)]
 pub struct Line<S> {
@@ -119,17 +119,22 @@ impl Sum for Map {
 }
 
 // Of each text, at the front of its slot; 2^64 - 1 where one was rejected.
-fn all(slots: &[u8], stride: usize, len: usize, mut sum_of: impl FnMut(&[u8]) -> Option<u64>) -> u64 {
-    let mut sums = slots.chunks_exact(stride).map(|slot| sum_of(&slot[..len]));
+fn all<'t>(
+    slots: &'t mut [u8],
+    stride: usize,
+    len: usize,
+    mut sum_of: impl FnMut(&'t mut [u8]) -> Option<u64>,
+) -> u64 {
+    let mut sums = slots.chunks_exact_mut(stride).map(|slot| sum_of(&mut slot[..len]));
     sums.try_fold(0u64, |sum, one| Some(sum.wrapping_add(one?))).unwrap_or(u64::MAX)
 }
 
-fn by_serde_json<'t, T: Deserialize<'t> + Sum>(_: &mut Buffers, text: &'t [u8]) -> Option<u64> {
+fn by_serde_json<'t, T: Deserialize<'t> + Sum>(_: &mut Buffers, text: &'t mut [u8]) -> Option<u64> {
     serde_json::from_slice::<T>(text).ok().map(|value| value.sum())
 }
 
-fn by_crate<'b, T: Deserialize<'b> + Sum>(buffers: &'b mut Buffers, text: &[u8]) -> Option<u64> {
-    from_slice_with::<T>(buffers, text).ok().map(|value| value.sum())
+fn by_crate<'t, T: Deserialize<'t> + Sum>(buffers: &mut Buffers, text: &'t mut [u8]) -> Option<u64> {
+    from_slice_mut_with::<T>(buffers, text).ok().map(|value| value.sum())
 }
 
 // Exports a function for types with such strings.
@@ -139,10 +144,10 @@ macro_rules! export {
         ///
         /// # Safety
         ///
-        /// `texts` has `size` bytes, and `stride` is at least `len` and not 0.
+        /// `texts` has `size` bytes, which may be written, and `stride` is at least `len` and not 0.
         #[no_mangle]
-        pub unsafe extern "C" fn $name(texts: *const u8, size: usize, stride: usize, len: usize, form: u32) -> u64 {
-            let texts = std::slice::from_raw_parts(texts, size);
+        pub unsafe extern "C" fn $name(texts: *mut u8, size: usize, stride: usize, len: usize, form: u32) -> u64 {
+            let texts = std::slice::from_raw_parts_mut(texts, size);
             let mut buffers = Buffers::default();
             match form {
                 0 => all(texts, stride, len, |text| $read::<Line<$text>>(&mut buffers, text)),

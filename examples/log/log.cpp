@@ -15,7 +15,7 @@ int main(int argc, char **argv) {
     bool is_right = true;
     for (size_t number = 1; std::getline(file, line); number++) {
         try {
-            const auto root = parser.parse(line);
+            const auto root = parser.parse(std::string_view(line)); // a copy, so that an error has its column
             std::cout << root["status"].as_uint64().value() << ' ' << root["path"].as_string().value() << '\n';
             continue;
         } catch (const simd_json::error &e) {

@@ -95,16 +95,16 @@ class Library:
             self._reject(status, place)
 
     def tape(self, data, max_depth=1024):
-        """The nodes, and the bytes of their texts."""
+        """The nodes, and the bytes in which their texts are."""
         document, place = Document(), Place()
         with self._parser(max_depth) as parser:
-            # The input is overwritten, and what is lent is the parser's: both are copied.
-            status = self._parse(parser, ctypes.create_string_buffer(data, len(data)), len(data), byref(document), byref(place))
+            # The input is overwritten, and the nodes that are lent are the parser's: both are copied.
+            copy = ctypes.create_string_buffer(data, len(data))
+            status = self._parse(parser, copy, len(data), byref(document), byref(place))
             if status:
                 self._reject(status, place)
             nodes = ctypes.string_at(document.nodes, document.nodes_len * ctypes.sizeof(Node))
-            text = ctypes.string_at(document.text, document.text_len) if document.text_len else b""
-        return list((Node * document.nodes_len).from_buffer_copy(nodes)), text
+        return list((Node * document.nodes_len).from_buffer_copy(nodes)), copy.raw
 
     def loads(self, data, max_depth=1024, decimal=float):
         """The value, as json.loads has it. `decimal` is called with the literal of a fraction or exponent."""

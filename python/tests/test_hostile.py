@@ -23,7 +23,12 @@ LOOK = threading.RLock()  # since lists of all objects would hold each other
 
 
 def is_half_made(found):
-    return type(found) is list and len(gc.get_referents(found)) < len(found)
+    """Whether a list has fewer items than its length. Other threads' lists may grow or be cleared
+    between one look and the next, so that the length before and the one after both count."""
+    if type(found) is not list:
+        return False
+    before = len(found)
+    return len(gc.get_referents(found)) < min(before, len(found))
 
 
 class Rejected(Exception):

@@ -332,6 +332,24 @@ class Values(unittest.TestCase):
                 simd_json.loads(text, parse_float=fails)
         self.assertEqual(simd_json.loads("[1.5]"), [1.5])
 
+    def test_hooks_may_change_the_input(self):
+        """What comes after it is of the input as it was: with the same parser, and with what it has indexed."""
+        text = b'[1.5, "\\u00e9", {"a\\n": "b"}, 2.5, "' + b"x" * 100 + b'"]'
+        wanted = ["1.5", "é", {"a\n": "b"}, "2.5", "x" * 100]
+
+        def change(literal):
+            data[:] = b"?" * len(data)
+            parser.loads(other)
+            simd_json.loads(other)
+            return literal
+
+        other = b'["' + b"\\u0041" * 1000 + b'", "y"]'
+        for call in (lambda: parser.loads(data), lambda: simd_json.loads(data, parse_float=change),
+                     lambda: (parser.index(data), parser.get(""))[1]):
+            data, parser = bytearray(text), simd_json.Parser(parse_float=change)
+            self.assertEqual(call(), wanted)
+            self.assertEqual(data, b"?" * len(text))
+
     def test_code_of_users_sees_no_half_made_container(self):
         """Neither parse_float, nor what an object does that dies because its key comes again."""
         def is_half_made(value):

@@ -79,7 +79,7 @@ static void parser_kept(void) {
             WANT(simd_json_parser_parse(&parser, copy, fresh(copy, input), &lent, &place) == status, input);
             WANT(lent.nodes_len == rows[i % ROWS].nodes_len, input);
         }
-        WANT(lent.nodes[0].kind == SIMD_JSON_STRING && lent.nodes[0].len == 1 && lent.text[0] == 'A', "the last");
+        WANT(lent.nodes[0].kind == SIMD_JSON_STRING && lent.nodes[0].len == 1 && lent.text[lent.nodes[0].value] == 'A', "the last");
         simd_json_close(&parser);
     }
 }
@@ -364,7 +364,7 @@ static void values_printed(void) {
     simd_json_close(&parser);
 }
 
-// What is lent stays until the next call; after an error the last loan is not given again.
+// What is lent stays until the next call, and its texts in the input; after an error the last loan is not given again.
 static void tapes_lent(void) {
     char copy[64];
     simd_json_document lent = {0};
@@ -374,16 +374,16 @@ static void tapes_lent(void) {
     for (int round = 0; round < 3; round++) {
         size_t len = fresh(copy, "{\"the_answer\": [\"x\", 42]}");
         WANT(simd_json_parser_parse(&parser, copy, len, &lent, &place) == SIMD_JSON_OK, "lent");
-        memset(copy, 0, sizeof copy);
         size_t at = simd_json_pointer(lent.nodes, lent.nodes_len, lent.text, lent.text_len, 0, "/the_answer/1", 13);
         WANT(lent.nodes_len == 5 && at == 4 && lent.nodes[at].kind == SIMD_JSON_U64 && lent.nodes[at].value == 42, "lent");
-        WANT(lent.text_len == 11 && memcmp(lent.text, "the_answerx", 11) == 0, "lent");
+        WANT(lent.text == copy && lent.text_len == len && lent.nodes[1].value == 2 && lent.nodes[3].value == 17, "lent");
+        WANT(memcmp(copy + 2, "the_answer", 10) == 0 && copy[17] == 'x', "lent");
         simd_json_document before = lent;
         len = fresh(copy, "[[1,2],3");
         WANT(simd_json_parser_parse(&parser, copy, len, &lent, &place) == SIMD_JSON_SYNTAX && place.index == 7, "lent");
         WANT(memcmp(&before, &lent, sizeof lent) == 0, "lent");
         WANT(simd_json_parser_parse(&parser, copy, fresh(copy, "7"), &lent, &place) == SIMD_JSON_OK, "lent");
-        WANT(lent.nodes_len == 1 && lent.text_len == 0 && lent.nodes[0].kind == SIMD_JSON_U64 && lent.nodes[0].value == 7, "lent");
+        WANT(lent.nodes_len == 1 && lent.text_len == 1 && lent.nodes[0].kind == SIMD_JSON_U64 && lent.nodes[0].value == 7, "lent");
     }
     simd_json_close(&parser);
 }
@@ -451,7 +451,7 @@ static void input_kept(void) {
     WANT(simd_json_parser_index(&parser, "[\"\\u0041\", 2]", 13, &place) == SIMD_JSON_OK, "kept");
     WANT(simd_json_parser_find(&parser, "/0", 2, &found, out, sizeof out) == SIMD_JSON_OK && found.len == 8, "kept");
     WANT(simd_json_parser_parse(&parser, out, found.len, &lent, &place) == SIMD_JSON_OK, "kept");
-    WANT(lent.nodes_len == 1 && lent.nodes[0].kind == SIMD_JSON_STRING && lent.text_len == 1 && lent.text[0] == 'A', "kept");
+    WANT(lent.nodes_len == 1 && lent.nodes[0].kind == SIMD_JSON_STRING && lent.nodes[0].len == 1 && lent.text[1] == 'A', "kept");
     WANT(simd_json_parser_check(&parser, "[3", 2, &place) == SIMD_JSON_SYNTAX, "kept");
     out[0] = 'x';
     WANT(simd_json_parser_find(&parser, "/1", 2, &found, out, 0) == SIMD_JSON_TOO_LITTLE_ROOM, "kept");
@@ -471,7 +471,7 @@ static void input_kept(void) {
 
 static void version(void) {
     WANT(simd_json_version() == SIMD_JSON_VERSION, "version");
-    WANT(SIMD_JSON_VERSION == 200, "0.2.0");
+    WANT(SIMD_JSON_VERSION == 300, "0.3.0");
 }
 
 int main(void) {

@@ -44,9 +44,13 @@ static void give_back(lent l, size_t from) {
 
 static const char document[] = "{\"a\":[1,-2,2.5,\"\\n\\u00e9\",18446744073709551616],\"b\":{\"c\":null,\"d\":true}}";
 static const size_t len = sizeof document - 1;
-// Worked by hand: 14 nodes, with the texts a 2.5 \n\303\251 18446744073709551616 b c d.
-enum { NODES = 14, TEXT = 30 };
-static const char text[] = "a2.5\n\303\251" "18446744073709551616bcd";
+// Worked by hand: 14 nodes, with these texts at these bytes.
+enum { NODES = 14 };
+static const struct {
+    size_t node, at;
+    const char *text;
+} texts[] = {{1, 2, "a"},  {5, 11, "2.5"}, {6, 16, "\n\303\251"}, {7, 26, "18446744073709551616"},
+             {8, 49, "b"}, {10, 54, "c"},  {12, 63, "d"}};
 
 static simd_json_parser parser;
 
@@ -73,7 +77,7 @@ static void prints(const char *pointer, uint32_t layout, const char *wanted) {
     }
 }
 
-// The input before a page that may not be touched is enough, and what is lent stays when it is gone.
+// The input before a page that may not be touched is enough, and holds the texts afterwards.
 static void lends(void) {
     static const uint32_t kinds[NODES] = {SIMD_JSON_OBJECT, SIMD_JSON_STRING, SIMD_JSON_ARRAY, SIMD_JSON_U64, SIMD_JSON_I64,
                                           SIMD_JSON_DECIMAL, SIMD_JSON_STRING, SIMD_JSON_U128, SIMD_JSON_STRING, SIMD_JSON_OBJECT,
@@ -82,9 +86,14 @@ static void lends(void) {
     simd_json_place place;
     lent input = lend_copy(document, len);
     WANT(simd_json_parser_parse(&parser, input.at, len, &kept, &place) == SIMD_JSON_OK);
-    give_back(input, len);
-    WANT(kept.nodes_len == NODES && kept.text_len == TEXT && memcmp(kept.text, text, TEXT) == 0);
+    WANT(kept.nodes_len == NODES && kept.text == input.at && kept.text_len == len);
     for (size_t i = 0; i < NODES; i++) WANT(kept.nodes[i].kind == kinds[i]);
+    for (size_t i = 0; i < sizeof texts / sizeof *texts; i++) {
+        const simd_json_node *node = &kept.nodes[texts[i].node];
+        WANT(node->value == texts[i].at && node->len == strlen(texts[i].text));
+        WANT(memcmp(kept.text + node->value, texts[i].text, node->len) == 0);
+    }
+    give_back(input, len);
 }
 
 // A value by a pointer, from an input, with room for its bytes of each size.
@@ -177,24 +186,23 @@ static void pointers(void) {
     memcpy(copy, document, sizeof document);
     WANT(simd_json_parser_parse(&parser, copy, len, &kept, &place) == SIMD_JSON_OK);
     const simd_json_node *all = kept.nodes;
-    const char *texts = kept.text;
     for (size_t a = 0; a <= NODES; a++)
-        for (size_t b = 0; b <= TEXT; b++) {
-            lent nodes = lend_copy((const char *)all, a * sizeof *all), text_part = lend_copy(texts, b), path = lend_copy(pointer, 4);
+        for (size_t b = 0; b <= len; b++) {
+            lent nodes = lend_copy((const char *)all, a * sizeof *all), text_part = lend_copy(copy, b), path = lend_copy(pointer, 4);
             size_t found = simd_json_pointer(nodes.at, a, text_part.at, b, 0, path.at, 4);
-            if (a == NODES && b == TEXT) WANT(found == 13);
+            if (a == NODES && b == len) WANT(found == 13);
             WANT(found == SIMD_JSON_NO_NODE || found < a);
             found = simd_json_key(nodes.at, a, text_part.at, b, 0, (char *)path.at + 1, 1);
-            if (a == NODES && b == TEXT) WANT(found == 9);
+            if (a == NODES && b == len) WANT(found == 9);
             WANT(found == SIMD_JSON_NO_NODE || found < a);
             give_back(nodes, a * sizeof *all);
             give_back(text_part, b);
             give_back(path, 4);
         }
-    WANT(simd_json_pointer(all, 14, texts, 30, 0, 0, 0) == 0 && simd_json_pointer(all, 14, texts, 30, 2, "/4", 2) == 7);
-    WANT(simd_json_pointer(all, 14, texts, 30, 9, "/c", 2) == 11 && simd_json_pointer(all, 14, texts, 30, 9, "/a", 2) == SIMD_JSON_NO_NODE);
-    WANT(simd_json_pointer(all, 14, texts, 30, 14, 0, 0) == SIMD_JSON_NO_NODE);
-    WANT(simd_json_pointer(all, 14, texts, 30, SIZE_MAX, 0, 0) == SIMD_JSON_NO_NODE);
+    WANT(simd_json_pointer(all, 14, copy, len, 0, 0, 0) == 0 && simd_json_pointer(all, 14, copy, len, 2, "/4", 2) == 7);
+    WANT(simd_json_pointer(all, 14, copy, len, 9, "/c", 2) == 11 && simd_json_pointer(all, 14, copy, len, 9, "/a", 2) == SIMD_JSON_NO_NODE);
+    WANT(simd_json_pointer(all, 14, copy, len, 14, 0, 0) == SIMD_JSON_NO_NODE);
+    WANT(simd_json_pointer(all, 14, copy, len, SIZE_MAX, 0, 0) == SIMD_JSON_NO_NODE);
     uint64_t random = 6901;
     for (int round = 0; round < 20000; round++) {
         lent nodes = lend(5 * sizeof(simd_json_node)), text_part = lend(3);

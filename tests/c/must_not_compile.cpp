@@ -1,20 +1,24 @@
-// With CASE above 0 it must not compile: an element of a parser or of a document that is gone at
-// once, and an index that is none. tests/bindings.sh says what the message names.
+// With CASE above 0 it must not compile: an element of a parser, of a text or of a document that is
+// gone at once, and an index that is none. tests/bindings.sh says what the message names.
 #include <cstdio>
 #include <simd_json.hpp>
 
 simd_json_document lent();
 const simd_json_document lent_as_const();
 
+using simd_json::element;
+
 int main() {
     simd_json::parser parser;
     const simd_json_document document{};
     const auto root = parser.parse("[1]");
+    std::string text("[1]");
+    element (simd_json::parser::*const lend)(std::string &) & = &simd_json::parser::parse;
 #if CASE == 0
     const simd_json::element of(document);
     for (const auto element : parser.parse("[1]").array())
         std::printf("%u", element.kind());
-    return static_cast<int>(root[0].kind() + parser.root().kind());
+    return static_cast<int>(root[0].kind() + parser.root().kind() + (parser.*lend)(text).kind());
 #elif CASE == 1
     const auto element = simd_json::parser().parse("[1]");
 #elif CASE == 2
@@ -36,5 +40,15 @@ int main() {
     const auto element = simd_json::parser().find("/0");
 #elif CASE == 10
     return root == std::vector<int>();
+#elif CASE == 11
+    const auto element = simd_json::parser().parse(text);
+#elif CASE == 12
+    const auto element = simd_json::parser().parse(std::string("[1]"));
+#elif CASE == 13
+    const auto element = (parser.*lend)(std::string("[1]"));
+#elif CASE == 14
+    const auto element = (parser.*lend)(std::move(text));
+#elif CASE == 15
+    const auto element = (parser.*lend)(std::as_const(text));
 #endif
 }

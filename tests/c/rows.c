@@ -156,16 +156,17 @@ static struct tape tape_of(simd_json_parser *parser, const struct row *row, stru
     simd_json_document lent = {0, NOT_WRITTEN, 0, NOT_WRITTEN};
     struct tape tape = {.place = {NOT_WRITTEN, NOT_WRITTEN}};
     tape.status = simd_json_parser_parse(parser, copy, row->input.len, &lent, &tape.place);
-    free(copy);
     if (tape.status == SIMD_JSON_OK) {
         tape.nodes_len = lent.nodes_len;
         tape.text_len = lent.text_len;
+        if (tape.nodes_len > row->input.len || tape.text_len != row->input.len || lent.text != copy)
+            blame(wrong, "simd_json_parser_parse", " lends something else");
         tape.nodes = copy_of(lent.nodes, lent.nodes_len * sizeof *lent.nodes);
-        tape.text = copy_of(lent.text, lent.text_len);
-        if (tape.nodes_len > row->input.len || tape.text_len > row->input.len) blame(wrong, "simd_json_parser_parse", " lends too much");
+        tape.text = copy_of(copy, row->input.len);
     } else if (lent.nodes || lent.nodes_len != NOT_WRITTEN || lent.text || lent.text_len != NOT_WRITTEN) {
         blame(wrong, "simd_json_parser_parse", " changed *document");
     }
+    free(copy);
     return tape;
 }
 
@@ -283,31 +284,33 @@ static void put_tape(struct bytes *to, const struct tape *tape) {
     }
 }
 
-// Whether the texts follow one another, and the fields of which nothing is said are 0.
+static bool has_text(const simd_json_node *node) { return node->kind >= SIMD_JSON_I128 && node->kind <= SIMD_JSON_STRING; }
+
+// Whether the texts lie in the input in their order, each by itself, and the fields of which nothing is said are 0.
 static bool is_tidy(const struct tape *tape) {
-    size_t text = 0;
+    size_t end = 0;
     for (size_t i = 0; i < tape->nodes_len; i++) {
         const simd_json_node *node = &tape->nodes[i];
-        bool is_text = node->kind >= SIMD_JSON_I128 && node->kind <= SIMD_JSON_STRING;
+        bool is_text = has_text(node);
         bool is_container = node->kind == SIMD_JSON_ARRAY || node->kind == SIMD_JSON_OBJECT;
         if (!is_text && !is_container && node->len != 0) return false;
-        if (is_text && (node->value != text || node->len > tape->text_len - text)) return false;
-        if (is_text) text += node->len;
+        if (is_text && (node->value < end || node->value > tape->text_len || node->len > tape->text_len - node->value)) return false;
+        if (is_text) end = (size_t)node->value + node->len;
         if (node->kind == SIMD_JSON_NULL && node->value != 0) return false;
         if (node->kind == SIMD_JSON_BOOL && node->value > 1) return false;
     }
-    return text == tape->text_len;
+    return true;
 }
 
 // Whether two tapes are of equal values: 0 is printed without a sign.
 static bool is_equal(const struct tape *a, const struct tape *b) {
-    if (a->nodes_len != b->nodes_len || a->text_len != b->text_len) return false;
-    if (a->text_len && memcmp(a->text, b->text, a->text_len) != 0) return false;
+    if (a->nodes_len != b->nodes_len) return false;
     for (size_t i = 0; i < a->nodes_len; i++) {
         const simd_json_node *m = &a->nodes[i], *n = &b->nodes[i];
         bool is_zero = m->kind == SIMD_JSON_I64 && m->value == 0 && n->kind == SIMD_JSON_U64;
         if (!is_zero && m->kind != n->kind) return false;
-        if (m->len != n->len || m->value != n->value) return false;
+        if (m->len != n->len) return false;
+        if (has_text(m) ? memcmp(a->text + m->value, b->text + n->value, m->len) != 0 : m->value != n->value) return false;
     }
     return true;
 }

@@ -23,8 +23,11 @@ impl Node {
     pub(crate) const U128: u32 = 5;
     pub(crate) const DECIMAL: u32 = 6;
     pub(crate) const STRING: u32 = 7;
-    pub(crate) const ARRAY: u32 = 8;
     pub(crate) const OBJECT: u32 = 9;
+}
+
+impl Node {
+    pub(crate) const ARRAY: u32 = 8;
 }
 
 #[repr(C)]
@@ -54,7 +57,7 @@ struct Found {
     len: usize,
 }
 
-/// What a parse lends: memory of the parser, until its next call.
+/// What a parse lends: nodes of the parser, until its next call, and texts in the input, as long as that is unchanged.
 #[repr(C)]
 pub(crate) struct Document {
     nodes: *const Node,
@@ -68,10 +71,10 @@ unsafe impl Send for Document {}
 unsafe impl Sync for Document {}
 
 impl Document {
-    /// The value of the document. A `Tape` has borrowed the parser, or owns it and calls it no more.
+    /// The value of the document. A `Tape` has borrowed parser and input, or owns them and uses them no more.
     pub(crate) fn value(&self) -> Value<'_> {
         // SAFETY: so what is lent stays while the tape is borrowed.
-        unsafe { Value::new(self.lent_nodes(), self.lent_text()) }
+        unsafe { Value::new(self.lent_nodes(), self.lent_texts()) }
     }
 
     // The library lends so many nodes, at least one, until the next call with the parser.
@@ -79,12 +82,27 @@ impl Document {
         slice::from_raw_parts(self.nodes, self.nodes_len)
     }
 
-    // And so many bytes: strings and literals of a document, one after another, each of which is UTF-8.
-    unsafe fn lent_text<'a>(&self) -> &'a str {
+    // And so many bytes, as long as both are as the call has left them.
+    unsafe fn lent_texts<'a>(&self) -> Texts<'a> {
         if self.text_len == 0 {
-            return "";
+            return Texts(&[]);
         }
-        str::from_utf8_unchecked(slice::from_raw_parts(self.text, self.text_len))
+        Texts(slice::from_raw_parts(self.text, self.text_len))
+    }
+}
+
+/// The bytes in which the texts of a document are. Between them there may be anything.
+#[derive(Clone, Copy)]
+pub(crate) struct Texts<'a>(&'a [u8]);
+
+impl<'a> Texts<'a> {
+    /// The text of a node of the document: of a string, a key, a decimal or an integer beyond 64 bits.
+    #[inline]
+    pub(crate) fn of(self, node: &Node) -> &'a str {
+        assert!(node.kind < Node::ARRAY);
+        let (start, len) = (node.value as usize, node.len as usize);
+        // SAFETY: the bytes of such a node are UTF-8, and others have none, but for headers.
+        unsafe { str::from_utf8_unchecked(&self.0[start..start + len]) }
     }
 }
 
@@ -148,14 +166,14 @@ extern "C" {
 }
 
 /// The index of the value that a JSON Pointer names beneath the first of the nodes.
-pub(crate) fn pointed(nodes: &[Node], text: &str, pointer: &str) -> Option<usize> {
+pub(crate) fn pointed(nodes: &[Node], texts: Texts<'_>, pointer: &str) -> Option<usize> {
     // SAFETY: these are only read, until the call returns.
     let index = unsafe {
         simd_json_pointer(
             nodes.as_ptr(),
             nodes.len(),
-            text.as_ptr(),
-            text.len(),
+            texts.0.as_ptr(),
+            texts.0.len(),
             0,
             pointer.as_ptr(),
             pointer.len(),
@@ -245,8 +263,9 @@ fn result_of(status: i32, place: &Place) -> Result<(), Error> {
 ///
 /// ```compile_fail,E0499
 /// let mut buffers = simd_json_proved::Buffers::default();
-/// let first = buffers.parse(&mut b"[1]".to_vec()).unwrap();
-/// let second = buffers.parse(&mut b"[2]".to_vec()).unwrap();
+/// let (mut one, mut two) = (*b"[1]", *b"[2]");
+/// let first = buffers.parse(&mut one).unwrap();
+/// let second = buffers.parse(&mut two).unwrap();
 /// println!("{first}");
 /// ```
 pub struct Buffers {
@@ -298,12 +317,28 @@ impl Buffers {
         }
     }
 
-    /// Parses a document into a tape in this memory. The input is overwritten.
+    /// Parses a document into a tape, whose nodes are in this memory and whose texts are in the input, which is overwritten.
+    ///
+    /// So neither an input of which nothing is left compiles, nor one that is changed while there is a tape:
+    ///
+    /// ```compile_fail,E0716
+    /// let mut buffers = simd_json_proved::Buffers::default();
+    /// let tape = buffers.parse(&mut b"[1]".to_vec()).unwrap();
+    /// println!("{tape}");
+    /// ```
+    ///
+    /// ```compile_fail,E0506
+    /// let mut buffers = simd_json_proved::Buffers::default();
+    /// let mut input = *b"[1]";
+    /// let tape = buffers.parse(&mut input).unwrap();
+    /// input[1] = b'2';
+    /// println!("{tape}");
+    /// ```
     ///
     /// # Errors
     ///
     /// The first error of the input, with its kind, index and character.
-    pub fn parse(&mut self, input: &mut [u8]) -> Result<Tape<'_>, Error> {
+    pub fn parse<'a>(&'a mut self, input: &'a mut [u8]) -> Result<Tape<'a>, Error> {
         Ok(Tape::lent(self.document(input)?))
     }
 
@@ -321,11 +356,20 @@ impl Buffers {
         Ok(document)
     }
 
+    /// The nodes of an input, and the input with their texts, which so outlive the nodes.
+    #[cfg(feature = "serde")]
+    pub(crate) fn nodes_in<'i>(&mut self, input: &'i mut [u8]) -> Result<(&[Node], Texts<'i>), Error> {
+        let document = self.document(input)?;
+        // SAFETY: the nodes stay until the next call, for which the parser must be borrowed again.
+        Ok((unsafe { document.lent_nodes() }, Texts(input)))
+    }
+
     /// The value of an input that is left as it is, since a copy is parsed.
     #[cfg(feature = "serde")]
     pub(crate) fn value(&mut self, input: &[u8]) -> Result<Value<'_>, Error> {
-        self.reserve(input.len())?;
-        self.copy[..input.len()].copy_from_slice(input);
+        self.copy.clear();
+        self.copy.try_reserve(input.len()).map_err(|_| OUT_OF_MEMORY)?;
+        self.copy.extend_from_slice(input);
         self.value_of_copy(input.len())
     }
 
@@ -342,8 +386,8 @@ impl Buffers {
         let input = self.copy[..len].as_mut_ptr();
         // SAFETY: the parser is open, and the copy its own.
         let document = unsafe { self.document_at(input, len)? };
-        // SAFETY: what is lent stays until the next call, for which the parser must be borrowed again.
-        Ok(unsafe { Value::new(document.lent_nodes(), document.lent_text()) })
+        // SAFETY: what is lent stays until the next call, for which the parser and the copy must be borrowed again.
+        Ok(unsafe { Value::new(document.lent_nodes(), document.lent_texts()) })
     }
 
     /// Checks that the input is a document, and leaves it as it is.

@@ -12,13 +12,59 @@ mod ser;
 mod value;
 
 #[cfg(feature = "serde")]
-pub use de::{from_slice, from_slice_with, from_str, ReadError};
+pub use de::{from_slice, from_slice_mut, from_slice_mut_with, from_slice_with, from_str, ReadError};
 pub use error::{Error, ErrorType, Location};
 pub use ffi::{check, Buffers, Index};
 pub use value::{Array, Object, Tape, Value, ValueType};
 
-/// Parses a document into a tape. The input is overwritten: escapes are decoded in place, and afterwards its contents are
-/// unspecified.
+/// Parses a document into a tape, which borrows the input: its strings and literals are there. The input is overwritten, since
+/// escapes are decoded in place.
+///
+/// ```
+/// let mut input = *br#"{"name":"\u00e9"}"#;
+/// let tape = simd_json_proved::to_tape(&mut input)?;
+/// assert_eq!(tape.as_value().get("name").and_then(|name| name.as_str()), Some("é"));
+/// # Ok::<(), simd_json_proved::Error>(())
+/// ```
+///
+/// While there is a tape its input is neither changed, nor read, nor dropped, so these do not compile:
+///
+/// ```compile_fail,E0506
+/// let mut input = *b"[1]";
+/// let tape = simd_json_proved::to_tape(&mut input).unwrap();
+/// input[1] = b'2';
+/// println!("{tape}");
+/// ```
+///
+/// ```compile_fail,E0502
+/// let mut input = *b"[1]";
+/// let tape = simd_json_proved::to_tape(&mut input).unwrap();
+/// println!("{:?}", input);
+/// println!("{tape}");
+/// ```
+///
+/// ```compile_fail,E0505
+/// let mut input = b"[1]".to_vec();
+/// let tape = simd_json_proved::to_tape(&mut input).unwrap();
+/// drop(input);
+/// println!("{tape}");
+/// ```
+///
+/// ```compile_fail,E0515
+/// fn settings(mut text: Vec<u8>) -> simd_json_proved::Tape<'static> {
+///     simd_json_proved::to_tape(&mut text).unwrap()
+/// }
+/// ```
+///
+/// And no text outlives its tape:
+///
+/// ```compile_fail,E0505
+/// let mut input = *br#"["a"]"#;
+/// let tape = simd_json_proved::to_tape(&mut input).unwrap();
+/// let text = tape.as_value().get_idx(0).unwrap().as_str().unwrap();
+/// drop(tape);
+/// println!("{text}");
+/// ```
 ///
 /// # Errors
 ///
@@ -26,10 +72,10 @@ pub use value::{Array, Object, Tape, Value, ValueType};
 pub fn to_tape(input: &mut [u8]) -> Result<Tape<'_>, Error> {
     let mut buffers = Buffers::new()?;
     let document = buffers.document(input)?;
-    Ok(Tape::owned(document, buffers))
+    Ok(Tape::owned(document, buffers, Vec::new()))
 }
 
-/// Parses a document into a tape that borrows nothing, and so may be returned from a function. The bytes are freed.
+/// Parses a document into a tape that holds the input and borrows nothing, and so may be returned from a function.
 ///
 /// ```
 /// use simd_json_proved::{to_owned_tape, Error, Tape};
@@ -45,7 +91,7 @@ pub fn to_tape(input: &mut [u8]) -> Result<Tape<'_>, Error> {
 ///
 /// The first error of the input, with its kind, index and character.
 pub fn to_owned_tape(input: impl Into<Vec<u8>>) -> Result<Tape<'static>, Error> {
-    let mut buffers = Buffers::new()?;
-    let document = buffers.document(&mut input.into())?;
-    Ok(Tape::owned(document, buffers))
+    let (mut buffers, mut input) = (Buffers::new()?, input.into());
+    let document = buffers.document(&mut input)?;
+    Ok(Tape::owned(document, buffers, input))
 }

@@ -1,5 +1,5 @@
 //! Values of a tape. A node of a container is followed by the nodes of its members; its `value` is how many they are.
-use crate::ffi::{pointed, Buffers, Document, Node};
+use crate::ffi::{pointed, Buffers, Document, Node, Texts};
 use crate::number::nearest;
 use std::fmt;
 use std::iter::FusedIterator;
@@ -52,21 +52,23 @@ macro_rules! integers {
     )*};
 }
 
-/// A parsed document: its nodes in preorder, and the texts of its strings and literals.
-pub struct Tape<'buffers> {
+/// A parsed document: its nodes in preorder. Its strings and literals are in the input.
+pub struct Tape<'input> {
     document: Document,
-    // the memory, where it is not borrowed
-    _own: Option<Buffers>,
-    _borrowed: PhantomData<&'buffers mut Buffers>,
+    // where they are not borrowed, the memory of the nodes, and the input
+    _own: Option<(Buffers, Vec<u8>)>,
+    _borrowed: PhantomData<(&'input mut Buffers, &'input mut [u8])>,
 }
 
-impl<'buffers> Tape<'buffers> {
-    pub(crate) fn lent(document: Document) -> Tape<'buffers> {
+impl<'input> Tape<'input> {
+    /// The tape of buffers and an input that are borrowed.
+    pub(crate) fn lent(document: Document) -> Tape<'input> {
         Tape { document, _own: None, _borrowed: PhantomData }
     }
 
-    pub(crate) fn owned(document: Document, buffers: Buffers) -> Tape<'buffers> {
-        Tape { document, _own: Some(buffers), _borrowed: PhantomData }
+    /// The tape of these buffers, and of this input, unless that is borrowed. What they hold stays where it is when they are moved.
+    pub(crate) fn owned(document: Document, buffers: Buffers, input: Vec<u8>) -> Tape<'input> {
+        Tape { document, _own: Some((buffers, input)), _borrowed: PhantomData }
     }
 
     /// The document as a value.
@@ -91,13 +93,13 @@ impl fmt::Debug for Tape<'_> {
 pub struct Value<'tape> {
     // its nodes, and those after them
     nodes: &'tape [Node],
-    text: &'tape str,
+    texts: Texts<'tape>,
 }
 
 impl<'tape> Value<'tape> {
     /// The value of the first of the nodes, at least one.
-    pub(crate) fn new(nodes: &'tape [Node], text: &'tape str) -> Value<'tape> {
-        Value { nodes, text }
+    pub(crate) fn new(nodes: &'tape [Node], texts: Texts<'tape>) -> Value<'tape> {
+        Value { nodes, texts }
     }
 
     fn node(self) -> &'tape Node {
@@ -106,7 +108,7 @@ impl<'tape> Value<'tape> {
 
     /// The value of the nodes from an index on.
     pub(crate) fn at(self, index: usize) -> Value<'tape> {
-        Value { nodes: &self.nodes[index..], text: self.text }
+        Value { nodes: &self.nodes[index..], texts: self.texts }
     }
 
     /// How many nodes it has.
@@ -117,10 +119,10 @@ impl<'tape> Value<'tape> {
         }
     }
 
-    /// Its nodes, and the text of the document.
+    /// Its nodes, and the texts of the document.
     #[cfg(feature = "serde")]
-    pub(crate) fn parts(self) -> (&'tape [Node], &'tape str) {
-        (&self.nodes[..self.count()], self.text)
+    pub(crate) fn parts(self) -> (&'tape [Node], Texts<'tape>) {
+        (&self.nodes[..self.count()], self.texts)
     }
 
     /// Its nodes, each as a value: of an object the keys too.
@@ -133,10 +135,9 @@ impl<'tape> Value<'tape> {
         self.node().len as usize
     }
 
-    /// The text of a string, of a key, or of a number beyond 64 bits.
+    /// The text of a string, of a key, of a decimal, or of an integer beyond 64 bits.
     pub(crate) fn literal(self) -> &'tape str {
-        let node = self.node();
-        &self.text[node.value as usize..node.value as usize + node.len as usize]
+        self.texts.of(self.node())
     }
 
     /// Its kind.
@@ -236,7 +237,7 @@ impl<'tape> Value<'tape> {
     /// # Ok::<(), simd_json_proved::Error>(())
     /// ```
     pub fn pointer(self, pointer: &str) -> Option<Value<'tape>> {
-        pointed(self.nodes, self.text, pointer).map(|index| self.at(index))
+        pointed(self.nodes, self.texts, pointer).map(|index| self.at(index))
     }
 }
 

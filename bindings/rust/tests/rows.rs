@@ -241,8 +241,8 @@ fn arrays_and_objects_are_shown() {
 fn buffers_are_kept() {
     let mut buffers = Buffers::new().unwrap();
     for text in [r#"{"a":[1,"b"]}"#, "[]", r#"[1.5,"\u00e9",340282366920938463463374607431768211455]"#, "7"] {
-        let tape = buffers.parse(&mut text.as_bytes().to_vec()).unwrap();
-        let mut again = text.as_bytes().to_vec();
+        let (mut input, mut again) = (text.as_bytes().to_vec(), text.as_bytes().to_vec());
+        let tape = buffers.parse(&mut input).unwrap();
         let moved = Box::new(to_tape(&mut again).unwrap());
         assert_eq!(nodes(tape.as_value()), nodes(moved.as_value()));
         std::thread::scope(|scope| scope.spawn(|| assert!(tape.node_count() > 0)).join().unwrap());
@@ -310,6 +310,29 @@ fn tapes_are_returned() {
     assert_eq!(moved[1].as_value().get("a").unwrap().as_str(), Some("é\n"));
     assert_eq!((moved[0].to_string().as_str(), moved[2].as_value().as_f64()), ("[1]", Some(2.5)));
     assert_eq!(of("[1").unwrap_err().error(), ErrorType::Syntax);
+}
+
+// Of each length, as a document that borrows its input and as one that holds it, which is moved; texts end where they do.
+#[test]
+fn texts_stay_in_their_inputs() {
+    let text = |len: usize| {
+        format!(r#"["\u00e9\ud83d\ude00{0}","{0}\n",1.50,340282366920938463463374607431768211455]"#, "é".repeat(len))
+    };
+    let mut inputs: Vec<Vec<u8>> = (0..70).map(|len| text(len).into_bytes()).collect();
+    let ranges: Vec<_> = inputs.iter().map(|input| input.as_ptr_range()).collect();
+    let tapes: Vec<Tape> = inputs.iter_mut().map(|input| to_tape(input).unwrap()).collect();
+    for (range, tape) in ranges.iter().zip(&tapes) {
+        assert!(tape.as_value().as_array().unwrap().filter_map(|value| value.as_str()).all(|text| range.contains(&text.as_ptr())));
+    }
+    let owned: Vec<Tape> = (0..70).map(|len| to_owned_tape(text(len)).unwrap()).collect();
+    for moved in [tapes, std::thread::spawn(|| owned).join().unwrap()] {
+        for (len, tape) in moved.iter().enumerate() {
+            let at = |index| tape.as_value().get_idx(index).unwrap();
+            let wanted = ["é\u{1f600}".to_string() + &"é".repeat(len), "é".repeat(len) + "\n"];
+            assert_eq!([at(0), at(1)].map(|value| value.as_str().unwrap().to_string()), wanted);
+            assert_eq!((at(2).as_decimal(), at(3).as_u128()), (Some("1.50"), Some(u128::MAX)));
+        }
+    }
 }
 
 #[test]

@@ -2,7 +2,9 @@
 #![cfg(feature = "serde")]
 use serde::de::DeserializeOwned;
 use serde::{Deserialize, Serialize};
-use simd_json_proved::{from_slice, from_slice_with, from_str, to_owned_tape, Buffers, ErrorType};
+use simd_json_proved::{
+    from_slice, from_slice_mut, from_slice_mut_with, from_slice_with, from_str, to_owned_tape, Buffers, ErrorType,
+};
 use std::borrow::Cow;
 use std::collections::BTreeMap;
 use std::fmt::Debug;
@@ -150,6 +152,49 @@ fn strings_are_borrowed() {
     assert_eq!((line.level, line.bytes), ("x", &b"z"[..]));
 }
 
+// With the next inputs in the same buffers, and when these are gone.
+#[test]
+fn strings_stay_in_their_inputs() {
+    #[derive(Deserialize)]
+    struct Line<'a> {
+        number: f64,
+        #[serde(borrow)]
+        texts: Vec<&'a str>,
+    }
+    let text = |at: usize| format!("é\"{}", "x".repeat(at % 70));
+    let input = |at: usize| {
+        let texts = format!(r#"["\u00e9\"{}","","b"]"#, "x".repeat(at % 70));
+        format!(r#"{{"texts":{texts},"number":{at}.25,"more":{{"\n":[340282366920938463463374607431768211455]}}}}"#)
+    };
+    let mut inputs: Vec<Vec<u8>> = (0..300).map(|at| input(at).into_bytes()).collect();
+    let mut buffers = Buffers::default();
+    let mut lines: Vec<(std::ops::Range<*const u8>, Line)> = Vec::new();
+    for (at, input) in inputs.iter_mut().enumerate() {
+        let range = input.as_ptr_range();
+        let line = if at % 10 == 0 { from_slice_mut(input) } else { from_slice_mut_with(&mut buffers, input) };
+        lines.push((range, line.unwrap()));
+    }
+    drop(buffers);
+    for (at, (range, line)) in lines.iter().enumerate() {
+        assert_eq!((line.texts.as_slice(), line.number), ([text(at).as_str(), "", "b"].as_slice(), at as f64 + 0.25));
+        assert!(line.texts.iter().all(|text| range.contains(&text.as_ptr())));
+    }
+}
+
+#[test]
+fn errors_in_place_have_paths() {
+    let mut buffers = Buffers::default();
+    let mut text = *br#"[{"id":1},{"\u006eame":"\n","id":"x"}]"#;
+    let error = from_slice_mut_with::<Vec<Denying>>(&mut buffers, &mut text).unwrap_err();
+    assert_eq!(error.to_string(), "/1/id: invalid type: string \"x\", expected u8");
+    assert_eq!((error.line(), error.column(), error.location(), error.parse_error()), (0, 0, None, None));
+    let error = from_slice_mut::<u8>(&mut br#"["\n",]"#.to_vec()).unwrap_err();
+    assert_eq!((error.to_string().as_str(), error.line()), ("InternalError at character 6 (']')", 0));
+    assert_eq!(error.parse_error().map(|error| error.index()), Some(6));
+    assert_eq!(from_slice_mut_with::<u8>(&mut buffers, &mut []).unwrap_err().to_string(), "Eof at character 0");
+    assert_eq!(from_slice_mut_with::<Vec<u8>>(&mut buffers, &mut b"[1,2]".to_vec()).unwrap(), [1, 2]);
+}
+
 #[test]
 fn errors_have_places() {
     let text = "{\"id\": 1,\n \"a/b\": {\"~é\": [1, 2,\n  \"x\"]}}";
@@ -290,6 +335,13 @@ fn judge<T: DeserializeOwned + PartialEq + Debug>(text: &[u8], read: &mut [usize
         Err(_) => Err(serde::de::Error::custom("no document")),
     };
     let shown = String::from_utf8_lossy(text);
+    match (&ours, from_slice_mut::<T>(&mut text.to_vec())) {
+        (Ok(ours), Ok(in_place)) => assert_eq!(*ours, in_place, "{shown}"),
+        (Err(ours), Err(in_place)) => {
+            assert_eq!((ours.parse_error(), ours.path()), (in_place.parse_error(), in_place.path()), "{shown}");
+        }
+        (ours, in_place) => panic!("{shown}: {ours:?}, in place {in_place:?}"),
+    }
     let is_beyond = || {
         let out_of_range = is_document.as_ref().err().map_or(false, |error| error.to_string().contains("number out of range"));
         let is_long = |number: &str| number.len() > 18 || number == "-0";

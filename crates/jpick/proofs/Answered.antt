@@ -1,5 +1,6 @@
 -- What the answer of a text is.
-use Rattle.std.proofs.Common.{◌≡◌, ◌∙◌, ap, sym, subst, inl, inr, ℕ, List, Option, Some, false, Result, Ok, Err}
+use Rattle.simd_json_parts.specs.Limits.{depth}
+use Rattle.std.proofs.Common.{◌≡◌, ◌≤◌, ◌∙◌, ap, sym, subst, inl, inr, ℕ, List, Option, Some, false, Result, Ok, Err}
 use Rattle.std.proofs.lemmas.Bool.{false≢true}
 use Rattle.std.specs.Result.{result_err}
 use Rattle.simd_json.proofs.Views.Listed.{known}
@@ -18,6 +19,11 @@ pub answered : (b : List ℕ) (limit depth : ℕ) (nodes : List Item) (d : Docum
     → listing d ≡ nodes → answer b depth ≡ Ok d
 answered b limit depth nodes d p is same =
     ap (answer b) (sym is) ∙ p.answered ∙ ap Ok (sym (known d p.document (same ∙ p.listed)))
+
+-- it is no deeper than the limit
+pub nested-within : (b : List ℕ) (limit : ℕ) (nodes : List Item) (d : Document) → IsParsed b limit nodes → listing d ≡ nodes
+    → depth d ≤ limit
+nested-within b limit nodes d p same = subst (λ e. depth e ≤ limit) (sym (known d p.document (same ∙ p.listed))) p.within.nesting
 
 pub answered-error : (b : List ℕ) (limit depth capacity : ℕ) (e : Error) (nodes : List Item) (listed : List ℕ)
     → IsParse b limit capacity (Some e) nodes listed → HasMemory (Some e) → limit ≡ depth → answer b depth ≡ Err e

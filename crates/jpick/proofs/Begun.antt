@@ -6,7 +6,7 @@ use Rattle.simd_json_parts.specs.Pieces.{is_blank}
 use Rattle.simd_json_parts.specs.Answer.{answer}
 use Rattle.simd_json_parts.specs.Document.{Document}
 use Rattle.simd_json_parts.specs.declared.error.Error.{Error}
-use Rattle.jpick.specs.Picked.{Picked, next, rejection_line, row_of, with_answer, with_line, with_rejection}
+use Rattle.jpick.specs.Picked.{Picked, next, rejection_line, rows_of, with_answer, with_line, with_rejection}
 use Rattle.jpick.specs.declared.fields.Wanted.{Wanted}
 
 record Grows (r s : Picked) : Type 0 where
@@ -45,7 +45,7 @@ grows-rejected w file r line error = record {
 }
 
 grows-answer : (w : Wanted) (file : List ℕ) (r : Picked) (line : List ℕ) (a : Result Document Error) → Grows r (with_answer w file r line a)
-grows-answer w file r line (Ok d) = record { more = []; all = append-nil r.rejections; more_rows = row_of w d; all_rows = refl }
+grows-answer w file r line (Ok d) = record { more = []; all = append-nil r.rejections; more_rows = rows_of w d; all_rows = refl }
 grows-answer w file r line (Err e) = grows-rejected w file r line (Some e)
 
 grows-line : (w : Wanted) (file : List ℕ) (r : Picked) (line : List ℕ) → Grows r (with_line w file r line)

@@ -1,6 +1,9 @@
 mod Answered
 mod Appended
+mod Arrays
 mod Begun
 mod Ended
+mod Enough
 mod Picking
 mod Shown
+mod Zipped

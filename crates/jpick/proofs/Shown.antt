@@ -1,6 +1,8 @@
 -- What one line more comes to.
 use Rattle.std.proofs.Common.{◌≡◌, ◌∙◌, ap, sym, subst, ℕ, ◌<◌, ◌≤◌, List, ◌++◌, append_assoc, append-nil, length}
-use Rattle.std.proofs.Common.{Bool, cond, Option, None}
+use Rattle.std.proofs.Common.{[], Bool, true, false, cond, ◌&&◌, Option, None}
+use Rattle.std.specs.List.{list_all}
+use Rattle.jpick.specs.Rows.{document_rows, has_needed, meets, needed_rows}
 use Rattle.std.specs.Io.KnownBytes.{Appends}
 use Rattle.std.proofs.lemmas.Bool.{lt-ltb, le-ltb}
 use Rattle.simd_json_parts.specs.Pieces.{is_blank}
@@ -11,7 +13,7 @@ use Rattle.simd_json_parts.specs.Document.{Document}
 use Rattle.simd_json_parts.specs.declared.error.Error.{Error}
 use Rattle.simd_json_print.proofs.Texts.{appends-then}
 use Rattle.jsonl.specs.Rejections.{one_more}
-use Rattle.jpick.specs.Picked.{Picked, next, rejection_line, row_of, with_answer, with_line, with_rejection, with_value}
+use Rattle.jpick.specs.Picked.{Picked, next, rejection_line, rows_of, with_answer, with_line, with_rejection, with_value}
 use Rattle.jpick.specs.Runs.{IsRejection, PicksValue, Shows, Writes}
 use Rattle.jpick.specs.declared.fields.Wanted.{Wanted}
 use Rattle.jpick.specs.declared.lines.Picker.{Picker}
@@ -65,6 +67,14 @@ shows-parsed old new before held holds w file r same limit shown = record {
   rejections = shown.rejections;
 }
 
+-- ---- whether rows follow
+
+pub picked-none : (w : Wanted) (d : Document) → list_all (meets d) w.filters.now ≡ false → rows_of w d ≡ []
+picked-none w d is = ap (λ b. cond (b && has_needed w d) (document_rows w d) []) is
+
+pub picked-rows : (w : Wanted) (d : Document) → list_all (meets d) w.filters.now ≡ true → rows_of w d ≡ needed_rows w d
+picked-rows w d is = ap (λ b. cond (b && has_needed w d) (document_rows w d) []) is
+
 pub shows-picked : {A : Type 0} (old new : Picker A) (before : List ℕ) (held holds : Option (List ℕ)) (w : Wanted) (file : List ℕ)
     (r : Picked) (d : Document) → Shows old before held holds w file r → PicksValue old new d
     → Shows new before held holds w file (with_value w r d)
@@ -74,8 +84,8 @@ shows-picked old new before held holds w file r d shown h = record {
   limited = ap (λ p. p.buffers.limit) h.same ∙ shown.limited;
   number = ap (λ p. p.number) h.same ∙ shown.number;
   all_taken = ap (λ p. p.all_taken) h.same ∙ shown.all_taken;
-  rows = ap (λ us. before ++ us) h.rows ∙ sym (append_assoc before old.rows.items (row_of old.wanted.now d))
-      ∙ ap (λ us. us ++ row_of old.wanted.now d) shown.rows ∙ ap (λ v. r.rows ++ row_of v d) shown.by;
+  rows = ap (λ us. before ++ us) h.rows ∙ sym (append_assoc before old.rows.items (rows_of old.wanted.now d))
+      ∙ ap (λ us. us ++ rows_of old.wanted.now d) shown.rows ∙ ap (λ v. r.rows ++ rows_of v d) shown.by;
   rejections = shown.rejections;
 }
 

@@ -1,5 +1,6 @@
 -- What the words of a command line ask for, by what was found in them.
-use Rattle.std.specs.Prelude.{◌≡◌, ℕ, List, [], ◌∷◌, ◌++◌, codes, map, Bool, true, false, bytes_eq}
+use Rattle.std.specs.Prelude.{◌≡◌, ℕ, List, [], ◌∷◌, ◌++◌, codes, map, Bool, true, false, bytes_eq, ◌==◌}
+use Rattle.std.specs.List.{AllZip}
 use Rattle.std.specs.Option.{option_map_or}
 use Rattle.clap.specs.Matches.{first_value, matched_of, raw_values}
 use Rattle.clap.specs.declared.parser.matches.Found.{Found}
@@ -7,6 +8,11 @@ use Rattle.jpick.specs.declared.fields.Layout.{Layout}
 use Rattle.jpick.specs.declared.fields.Layout.TheVariants.{Tabs, Tsv, Csv, Json}
 use Rattle.jpick.specs.declared.options.Flags.{Flags}
 use Rattle.jpick.specs.declared.options.Options.{Options}
+use Rattle.jpick.specs.declared.query.Query.{Query}
+use Rattle.jpick.specs.declared.query.Query.TheVariants as query
+use Rattle.simd_json_path.specs.declared.filter.Filter.{Filter}
+use Rattle.simd_json_query.specs.Queries as path
+use Rattle.simd_json_query.specs.Steps.{dollar}
 
 -- the option without a value is among the words
 abbrev pub is_given : Found → List ℕ → Bool
@@ -41,7 +47,21 @@ or_input (name ∷ names) = name ∷ names
 abbrev pub files_of : Found → List (List ℕ)
 files_of f = or_input (texts_of f (codes "file"))
 
+-- a JSONPath begins with `$`, and a JSON Pointer does not
+abbrev pub is_path : List ℕ → Bool
+is_path [] = false
+is_path (x ∷ xs) = x == dollar
+
+-- it is that of the text
+abbrev pub IsQueryOf : Query → List ℕ → Type 0
+IsQueryOf (query.Pointer pointer) text = (pointer.now ≡ text) × (is_path text ≡ false)
+IsQueryOf (query.Path written p) text = (written.now ≡ text) × path.Query p.steps.now p.segments.now text
+
+abbrev pub IsFilterOf : Filter → List ℕ → Type 0
+IsFilterOf filter text = path.FilterText filter.test.now text
+
 pub record HasOptions (f : Found) (o : Options) : Type 0 where
-  pub pointers : map (λ pointer. pointer.now) o.pointers.items ≡ texts_of f (codes "query") ++ texts_of f (codes "and")
+  pub queries : AllZip IsQueryOf o.queries.now (texts_of f (codes "query") ++ texts_of f (codes "and"))
+  pub filters : AllZip IsFilterOf o.filters.now (texts_of f (codes "where"))
   pub flags : o.flags ≡ flags_of f
   pub files : map (λ name. name.now) o.files.items ≡ files_of f

@@ -1,5 +1,6 @@
 pub mod Asked
 pub mod Files
 pub mod Picked
+pub mod Queries
 pub mod Rows
 pub mod Runs

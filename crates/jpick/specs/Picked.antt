@@ -10,7 +10,7 @@ use Rattle.simd_json_parts.specs.declared.error.ErrorType.{ErrorType}
 use Rattle.simd_json_parts.specs.declared.error.ErrorType.TheVariants.{Syntax}
 use Rattle.jsonl.specs.Lines.{folded}
 use Rattle.jsonl.specs.Rejections.{one_more, rejection_words}
-use Rattle.jpick.specs.Rows.{is_picked, row}
+use Rattle.jpick.specs.Rows.{document_rows, is_picked}
 use Rattle.jpick.specs.declared.fields.Wanted.{Wanted}
 
 -- ---- how a rejected line is named
@@ -58,11 +58,11 @@ abbrev pub with_rejection : Wanted → List ℕ → Picked → List ℕ → Opti
 with_rejection w file r line error =
     record r { all_taken = false; rejections = r.rejections ++ rejection_line w file r.number line error }
 
-abbrev pub row_of : Wanted → Document → List ℕ
-row_of w d = if is_picked w d then row w (Some d) else []
+abbrev pub rows_of : Wanted → Document → List ℕ
+rows_of w d = if is_picked w d then document_rows w d else []
 
 abbrev pub with_value : Wanted → Picked → Document → Picked
-with_value w r d = record r { rows = r.rows ++ row_of w d }
+with_value w r d = record r { rows = r.rows ++ rows_of w d }
 
 abbrev pub with_answer : Wanted → List ℕ → Picked → List ℕ → Result Document Error → Picked
 with_answer w file r line (Ok d) = with_value w r d

@@ -1,45 +1,35 @@
 -- What is picked of a document: whether its line is printed, and its row.
 use Rattle.std.specs.Prelude.{ℕ, List, [], ◌∷◌, ◌++◌, flat_map, codes, Bool, true, false, ◌&&◌, ◌||◌, not, ◌==◌, if◌then◌else◌}
 use Rattle.std.specs.Prelude.{Option, None, Some, is_some, unwrap_or}
-use Rattle.std.specs.Borrow.{Bor}
 use Rattle.std.specs.List.{list_all}
-use Rattle.std.specs.Result.{result_ok}
-use Rattle.simd_json.specs.Viewed.{doc}
 use Rattle.jsonl.specs.Cells.{cells, raw_text, tsv_escape}
 use Rattle.simd_json_parts.specs.Bytes.{comma, left_bracket, line_feed, quote, right_bracket, tab}
 use Rattle.simd_json_parts.specs.Document.{Document, string, array, object}
-use Rattle.simd_json_parts.specs.Equality.{equal}
-use Rattle.simd_json_parts.specs.Pointed.{pointed}
 use Rattle.simd_json_parts.specs.Printed.{compact}
 use Rattle.simd_json_parts.specs.Views.{as_null}
-use Rattle.jpick.specs.declared.fields.Filter.{Filter}
-use Rattle.jpick.specs.declared.fields.Filter.TheVariants.{Is, IsNot, Exists}
+use Rattle.simd_json_path.specs.Filters.{holds}
+use Rattle.simd_json_path.specs.declared.filter.Filter.{Filter}
+use Rattle.jpick.specs.Queries.{column, first, is_singular, selected_by, text_of}
 use Rattle.jpick.specs.declared.fields.Layout.{Layout}
 use Rattle.jpick.specs.declared.fields.Layout.TheVariants.{Tabs, Tsv, Csv, Json}
 use Rattle.jpick.specs.declared.fields.Wanted.{Wanted}
-
--- the value that the pointer names, if there is one
-abbrev pub at : List ℕ → Document → Option Document
-at pointer d = result_ok (pointed pointer d)
+use Rattle.jpick.specs.declared.query.Query.{Query}
 
 -- ---- filters
 
--- there is a value, and it is equal to the other
-abbrev pub is_value : Document → Option Document → Bool
-is_value other None = false
-is_value other (Some d) = equal d other
-
 abbrev pub meets : Document → Filter → Bool
-meets d (Is pointer other) = is_value (doc other) (at pointer.now d)
-meets d (IsNot pointer other) = not (is_value (doc other) (at pointer.now d))
-meets d (Exists pointer) = is_some (at pointer.now d)
+meets d f = holds d f.test.now d
 
-abbrev pub has_value : Document → Bor (List ℕ) → Bool
-has_value d pointer = is_some (at pointer.now d)
+abbrev pub has_value : Document → Query → Bool
+has_value d q = is_some (first (selected_by q d))
 
--- the line is printed: each filter holds, and each pointer has a value if all are needed
+-- each query selects a value, if all are needed
+abbrev pub has_needed : Wanted → Document → Bool
+has_needed w d = not w.needs_all || list_all (has_value d) w.queries.now
+
+-- the line is printed
 abbrev pub is_picked : Wanted → Document → Bool
-is_picked w d = list_all (meets d) w.filters.now && (not w.needs_all || list_all (has_value d) w.pointers.now)
+is_picked w d = list_all (meets d) w.filters.now && has_needed w d
 
 -- ---- a value in a row
 
@@ -64,7 +54,7 @@ abbrev pub field_text : Layout → Document → List ℕ
 field_text layout d =
     if is_some (as_null d) then [] else quote_of layout d ++ flat_map (escaped layout) (raw_text d) ++ quote_of layout d
 
--- of a pointer that has no value
+-- of a query that selects nothing
 abbrev pub no_value_text : Layout → List ℕ
 no_value_text Json = codes "null"
 no_value_text _ = []
@@ -95,11 +85,28 @@ abbrev pub closing : Layout → List ℕ
 closing Json = right_bracket ∷ line_feed ∷ []
 closing _ = line_feed ∷ []
 
--- of a pointer: the value, or in the header the pointer itself, as a string
-abbrev pub cell_at : Wanted → Option Document → Bor (List ℕ) → List ℕ
-cell_at w None pointer = field_text w.layout (string pointer.now)
-cell_at w (Some d) pointer = value_cell w (at pointer.now d)
+-- of a query: its column, or in the header its text, as a string
+abbrev pub cell_at : Wanted → Option Document → Query → List ℕ
+cell_at w None q = field_text w.layout (string (text_of q))
+cell_at w (Some d) q = value_cell w (column q d)
 
 -- the row of a document, or the header
 abbrev pub row : Wanted → Option Document → List ℕ
-row w d = opening w.layout ++ cells (mark_of w.layout) (cell_at w d) w.pointers.now ++ closing w.layout
+row w d = opening w.layout ++ cells (mark_of w.layout) (cell_at w d) w.queries.now ++ closing w.layout
+
+-- ---- the rows of a document: of a lone query that may select more than one value there is one for each
+
+abbrev pub value_row : Wanted → Document → List ℕ
+value_row w d = opening w.layout ++ value_text w.layout w.is_raw d ++ closing w.layout
+
+abbrev pub rows_by : Wanted → List Query → Document → List ℕ
+rows_by w (q ∷ []) d = if is_singular q then row w (Some d) else flat_map (value_row w) (selected_by q d)
+rows_by w [] d = row w (Some d)
+rows_by w (q ∷ r ∷ qs) d = row w (Some d)
+
+abbrev pub document_rows : Wanted → Document → List ℕ
+document_rows w d = rows_by w w.queries.now d
+
+-- what private clauses cite
+abbrev pub needed_rows : Wanted → Document → List ℕ
+needed_rows w d = if has_needed w d then document_rows w d else []

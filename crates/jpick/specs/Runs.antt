@@ -13,7 +13,7 @@ use Rattle.simd_json_parts.specs.Document.{Document}
 use Rattle.simd_json_parts.specs.declared.error.Error.{Error}
 use Rattle.simd_json_parts.specs.declared.error.ErrorType.{ErrorType}
 use Rattle.simd_json_parts.specs.declared.error.ErrorType.TheVariants.{OutOfMemory}
-use Rattle.jpick.specs.Picked.{Picked, no_line, picked_document, picked_of, rejection_line, row_of, with_answer, with_line}
+use Rattle.jpick.specs.Picked.{Picked, no_line, picked_document, picked_of, rejection_line, rows_of, with_answer, with_line}
 use Rattle.jpick.specs.Rows.{row}
 use Rattle.jpick.specs.declared.fields.Wanted.{Wanted}
 use Rattle.jpick.specs.declared.lines.Picker.{Picker}
@@ -86,9 +86,9 @@ abbrev pub EndsRows : {T : Type 0} → Bool → Watched T → Watched T → Type
 EndsRows taken old new P Q result = old.failed ≡ false
     → MatchResult result (λ _. (new.failed ≡ false) × P) (λ failure. (new.failed ≡ true) × (failure ≡ output_fault new.closed taken) × Q)
 
--- the row of a line with this value follows, if it is picked
+-- the rows of a line with this value follow, if it is picked
 pub record PicksValue {A : Type 0} (old new : Picker A) (d : Document) : Type 0 where
-  pub rows : new.rows.items ≡ old.rows.items ++ row_of old.wanted.now d
+  pub rows : new.rows.items ≡ old.rows.items ++ rows_of old.wanted.now d
   pub same : new ≡ record old { rows = new.rows; spare = new.spare }
 
 -- of a writer of what is known: the rows are written, and none is left

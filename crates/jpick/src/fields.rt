@@ -1,30 +1,30 @@
-//! What is picked of the document of a line.
-ghost use Rattle.std.specs.Prelude.{◌≡◌, ◌++◌, OnOk, Some, flat_map, option_map};
-ghost use Rattle.std.specs.List.{list_all};
-ghost use Rattle.jsonl.specs.Cells.{after_mark, cells, raw_text};
+//! How a value is printed.
+ghost use Rattle.std.specs.Prelude.{◌≡◌, ◌++◌, ℕ, List, OnOk, flat_map, option_map};
+ghost use Rattle.jsonl.specs.Cells.{raw_text};
 ghost use Rattle.simd_json.specs.Viewed.{doc};
-ghost use Rattle.simd_json_parts.specs.Document.{string};
-ghost use Rattle.jpick.specs.Rows.{cell_at, closing, escape_of, escaped, field_text, has_value};
-ghost use Rattle.jpick.specs.Rows.{is_picked, is_value, mark_of, meets, no_value_text, opening};
-ghost use Rattle.jpick.specs.Rows.{quote_of, row, value_cell};
+ghost use Rattle.simd_json_parts.specs.Document.{Elements, array, string};
+ghost use Rattle.jpick.specs.Rows.{closing, escape_of, escaped, field_text, mark_of};
+ghost use Rattle.jpick.specs.Rows.{no_value_text, opening, quote_of, value_cell, value_text};
 
+use crate::query::Query;
 use jsonl::tsv_escape;
 use simd_json::tape::Value;
+use simd_json_path::Filter;
 use simd_json_print::document::append_compact;
 use std::alloc::{AllocError, Allocator};
 
 /// What is picked of each line, and how it is printed.
 #[derive(Clone, Copy)]
 pub struct Wanted<'a> {
-    /// Pointers to the values.
-    pub pointers: &'a [&'a str],
-    /// Lines that do not meet them all are passed over.
+    /// What selects the values.
+    pub queries: &'a [Query<'a>],
+    /// Lines that do not pass them all are passed over.
     pub filters: &'a [Filter<'a>],
     /// How the values of a line are printed.
     pub layout: Layout,
     /// Whether a string is printed as its text, if the layout is [`Layout::Tabs`].
     pub is_raw: bool,
-    /// Whether a line is passed over if a pointer has no value in it.
+    /// Whether a line is passed over if a query selects nothing of it.
     pub needs_all: bool,
     /// Whether rejected lines are not named.
     pub is_quiet: bool,
@@ -34,39 +34,6 @@ pub struct Wanted<'a> {
     pub depth: usize,
     /// Whether each file is one document.
     pub is_document: bool,
-}
-
-/// A condition on the document of a line.
-#[derive(Clone, Copy)]
-pub enum Filter<'a> {
-    /// The pointer has a value, which is equal to this one.
-    Is(&'a str, Value<'a, 'a>),
-    /// The pointer has no value that is equal to this one.
-    IsNot(&'a str, Value<'a, 'a>),
-    /// The pointer has a value.
-    Exists(&'a str),
-}
-
-impl Filter<'_> {
-    // Whether the value meets the condition.
-    fn holds(&self, value: &Value<'_, '_>) -> bool
-        ensures { result ≡ meets (doc value.now) self.now }
-    {
-        match *self {
-            Filter::Is(pointer, other) => is_value(value.pointer(pointer), other),
-            Filter::IsNot(pointer, other) => !is_value(value.pointer(pointer), other),
-            Filter::Exists(pointer) => value.pointer(pointer).is_some(),
-        }
-    }
-}
-
-fn is_value(value: Option<Value<'_, '_>>, other: Value<'_, '_>) -> bool
-    ensures { result ≡ is_value (doc other.entry) (option_map doc value.entry) }
-{
-    match value {
-        Some(value) => value == other,
-        None => false,
-    }
 }
 
 /// How the values of a line are printed.
@@ -83,8 +50,8 @@ pub enum Layout {
 }
 
 impl Layout {
-    // What is before the first value, between two of them and after the last one.
-    fn marks(self) -> (&'static [u8], &'static [u8], &'static [u8])
+    /// What is before the first value, between two of them and after the last one.
+    pub(crate) fn marks(self) -> (&'static [u8], &'static [u8], &'static [u8])
         ensures opening { result.0.now ≡ opening self }
         ensures mark { result.1.now ≡ mark_of self }
         ensures closing { result.2.now ≡ closing self }
@@ -97,112 +64,10 @@ impl Layout {
     }
 }
 
-/// Whether a line with this value is printed.
-pub fn is_picked(wanted: &Wanted<'_>, value: &Value<'_, '_>) -> bool
-    ensures { result ≡ is_picked wanted.now (doc value.now) }
-{
-    meets_all(wanted.filters, value) && (!wanted.needs_all || has_all(wanted.pointers, value))
-}
-
-fn meets_all(filters: &[Filter<'_>], value: &Value<'_, '_>) -> bool
-    ensures { result ≡ list_all (meets (doc value.now)) filters.now }
-{
-    for filter in filters {
-        if !filter.holds(value) {
-            return false;
-        }
-    }
-    true
-}
-
-// Whether each pointer has a value.
-fn has_all(pointers: &[&str], value: &Value<'_, '_>) -> bool
-    ensures { result ≡ list_all (has_value (doc value.now)) pointers.now }
-{
-    for pointer in pointers {
-        if value.pointer(*pointer).is_none() {
-            return false;
-        }
-    }
-    true
-}
-
-/// Appends the row of a value, or without one the header: the pointers themselves, as strings.
-/// `spare` may be overwritten.
+/// Appends what is printed for a column with this value. `spare` may be overwritten.
 ///
-/// Returns an error if an allocation fails.
-pub fn append_row<A: Allocator>(
-    rows: &mut Vec<u8, A>,
-    spare: &mut Vec<u8, A>,
-    wanted: &Wanted<'_>,
-    value: Option<Value<'_, '_>>,
-) -> Result<(), AllocError>
-    ensures { OnOk result (rows.new.items
-        ≡ rows.old.items ++ row wanted.now (option_map doc value.entry)) }
-{
-    let (opening, _, closing) = wanted.layout.marks();
-    rows.extend_from_slice(opening)?;
-    append_cells(rows, spare, wanted, value)?;
-    rows.extend_from_slice(closing)?;
-    Ok(())
-}
-
-fn append_cells<A: Allocator>(
-    rows: &mut Vec<u8, A>,
-    spare: &mut Vec<u8, A>,
-    wanted: &Wanted<'_>,
-    value: Option<Value<'_, '_>>,
-) -> Result<(), AllocError>
-    ensures { OnOk result (rows.new.items ≡ rows.old.items
-        ++ cells (mark_of wanted.now.layout) (cell_at wanted.now (option_map doc value.entry))
-        wanted.now.pointers.now) }
-{
-    let Some((first, rest)) = wanted.pointers.split_first() else {
-        return Ok(());
-    };
-    append_cell_at(rows, spare, wanted, value, *first)?;
-    append_others(rows, spare, wanted, value, rest)
-}
-
-// Appends the cells of more pointers, each after the mark.
-fn append_others<A: Allocator>(
-    rows: &mut Vec<u8, A>,
-    spare: &mut Vec<u8, A>,
-    wanted: &Wanted<'_>,
-    value: Option<Value<'_, '_>>,
-    pointers: &[&str],
-) -> Result<(), AllocError>
-    ensures { OnOk result (rows.new.items ≡ rows.old.items
-        ++ flat_map (after_mark (mark_of wanted.now.layout)
-        (cell_at wanted.now (option_map doc value.entry))) pointers.now) }
-{
-    let (_, mark, _) = wanted.layout.marks();
-    for pointer in pointers {
-        rows.extend_from_slice(mark)?;
-        append_cell_at(rows, spare, wanted, value, *pointer)?;
-    }
-    Ok(())
-}
-
-// Appends the cell of a pointer.
-fn append_cell_at<A: Allocator>(
-    rows: &mut Vec<u8, A>,
-    spare: &mut Vec<u8, A>,
-    wanted: &Wanted<'_>,
-    value: Option<Value<'_, '_>>,
-    pointer: &str,
-) -> Result<(), AllocError>
-    ensures { OnOk result (rows.new.items ≡ rows.old.items
-        ++ cell_at wanted.now (option_map doc value.entry) pointer.entry) }
-{
-    match value {
-        Some(value) => append_cell(rows, spare, wanted, value.pointer(pointer)),
-        None => append_name(rows, wanted.layout, pointer),
-    }
-}
-
-// Appends what is printed for a pointer with this value.
-fn append_cell<A: Allocator>(
+/// Returns an error if an allocation fails, as the next three do.
+pub fn append_cell<A: Allocator>(
     rows: &mut Vec<u8, A>,
     spare: &mut Vec<u8, A>,
     wanted: &Wanted<'_>,
@@ -211,9 +76,22 @@ fn append_cell<A: Allocator>(
     ensures { OnOk result (rows.new.items
         ≡ rows.old.items ++ value_cell wanted.now (option_map doc value.entry)) }
 {
-    let Some(value) = value else {
-        return append_missing(rows, wanted.layout);
-    };
+    match value {
+        Some(value) => append_value(rows, spare, wanted, value),
+        None => append_missing(rows, wanted.layout),
+    }
+}
+
+/// Appends what is printed for a value. `spare` may be overwritten.
+pub fn append_value<A: Allocator>(
+    rows: &mut Vec<u8, A>,
+    spare: &mut Vec<u8, A>,
+    wanted: &Wanted<'_>,
+    value: Value<'_, '_>,
+) -> Result<(), AllocError>
+    ensures { OnOk result (rows.new.items ≡ rows.old.items
+        ++ value_text wanted.now.layout wanted.now.is_raw (doc value.entry)) }
+{
     match wanted.layout {
         Layout::Tabs if wanted.is_raw => append_text(rows, value),
         Layout::Tabs | Layout::Json => append_compact(rows, value.nodes()),
@@ -258,8 +136,8 @@ fn append_field<A: Allocator>(
     append_quoted(rows, layout, quote_of(layout, value), spare.as_slice())
 }
 
-// Appends a text, escaped and between quotes.
-fn append_quoted<A: Allocator>(
+/// Appends a text, escaped and between quotes.
+pub fn append_quoted<A: Allocator>(
     rows: &mut Vec<u8, A>,
     layout: Layout,
     quote: &[u8],
@@ -274,8 +152,8 @@ fn append_quoted<A: Allocator>(
     Ok(())
 }
 
-// Appends a pointer as a string.
-fn append_name<A: Allocator>(
+/// Appends a text as a string.
+pub fn append_name<A: Allocator>(
     rows: &mut Vec<u8, A>,
     layout: Layout,
     name: &str,
@@ -283,11 +161,7 @@ fn append_name<A: Allocator>(
     ensures { OnOk result (rows.new.items
         ≡ rows.old.items ++ field_text layout (string name.now)) }
 {
-    let quote = match layout {
-        Layout::Csv => b"\"".as_slice(),
-        _ => b"",
-    };
-    append_quoted(rows, layout, quote, name.as_bytes())
+    append_quoted(rows, layout, quote(layout), name.as_bytes())
 }
 
 // What is before and after a value: quotes in comma separated text, if it is no truth value and no
@@ -298,6 +172,17 @@ fn quote_of(layout: Layout, value: Value<'_, '_>) -> &'static [u8]
     let is_quoted = value.as_str().is_some() || value.is_array() || value.is_object();
     match layout {
         Layout::Csv if is_quoted => b"\"",
+        _ => b"",
+    }
+}
+
+/// What is before and after a string or an array.
+pub fn quote(layout: Layout) -> &'static [u8]
+    ensures string { (t : List ℕ) → result.now ≡ quote_of layout (string t) }
+    ensures array { (ds : Elements) → result.now ≡ quote_of layout (array ds) }
+{
+    match layout {
+        Layout::Csv => b"\"",
         _ => b"",
     }
 }

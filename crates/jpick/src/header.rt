@@ -2,13 +2,14 @@
 ghost use Rattle.std.specs.Prelude.{◌≡◌, false};
 ghost use Rattle.jpick.specs.Runs.{Heads};
 
-use crate::fields::{Wanted, append_row};
+use crate::fields::Wanted;
+use crate::rows::append_row;
 use jsonl::{Channel, Failure};
 use simd_json_print::text::Text;
 use std::alloc::Allocator;
 use std::io::Write;
 
-/// Writes the row of the pointers themselves, as strings.
+/// Writes the row of the queries themselves, as strings.
 ///
 /// Fails with `Write` if writing does, or with `Closed` in its place, after a prefix of the row,
 /// and with `Resources` if an allocation fails, before any byte.
@@ -22,7 +23,7 @@ pub fn write_header<A: Allocator + Copy, W: Write>(
 {
     let mut row = Vec::new(a);
     let mut spare = Vec::new(a);
-    append_row(&mut row, &mut spare, wanted, None)?;
+    append_row(&mut row, &mut spare, &mut [], wanted, None)?;
     let mut text = Text::<Channel<W>, 64>::new(out);
     text.put(row.as_slice());
     match text.finish() {

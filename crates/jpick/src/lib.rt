@@ -1,18 +1,18 @@
-//! The values at JSON Pointers in each line of JSON Lines, or in documents.
+//! The values that JSON Pointers and JSONPaths select of each line of JSON Lines, or of documents.
 //!
-//! - [`run`]: writes a row of them for each line of a reader, or for its one document, and names what
+//! - [`run`]: writes rows of them for each line of a reader, or for its one document, and names what
 //!   is rejected.
-//! - [`write_header`]: writes the row of their names before it.
+//! - [`write_header`]: writes the row of the queries before it.
 //! - [`pick_each`]: a run for each file, and the greatest status.
 //! - [`asked`]: what the program's arguments ask for.
 //!
 //! ```
-//! use jpick::{Layout, Wanted, run};
+//! use jpick::{Layout, Query, Wanted, run};
 //! use jsonl::Channel;
 //!
 //! fn rows(rt: &impl AllocGlobal, lines: &[u8]) -> Vec<u8> {
 //!     let wanted = Wanted {
-//!         pointers: &["/k"],
+//!         queries: &[Query::Pointer("/k")],
 //!         filters: &[],
 //!         layout: Layout::Tabs,
 //!         is_raw: false,
@@ -35,15 +35,19 @@
 //! The program is a crate of its own, `jpick_main`.
 #![tactic(auto)]
 
+mod conditions;
 mod fields;
 mod files;
 mod header;
 mod lines;
 mod options;
+mod query;
+mod rows;
 mod runs;
 
-pub use fields::{Filter, Layout, Wanted};
+pub use fields::{Layout, Wanted};
 pub use files::pick_each;
 pub use header::write_header;
 pub use options::{Options, Unasked, asked};
+pub use query::Query;
 pub use runs::run;

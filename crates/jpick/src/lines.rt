@@ -1,14 +1,17 @@
 //! The lines of an input, and what is picked of them.
-ghost use Rattle.std.specs.Prelude.{◌≡◌, IfOk, OnOk};
+ghost use Rattle.std.specs.Prelude.{◌≡◌, ◌≤◌, IfOk, OnOk};
 ghost use Rattle.std.specs.Result.{result_err};
 ghost use Rattle.simd_json.specs.Viewed.{doc};
+ghost use Rattle.simd_json_parts.specs.Limits.{depth};
 ghost use Rattle.jpick.specs.Picked.{ends_early, is_hinted, naming_words, rejection_line};
 ghost use Rattle.jpick.specs.Runs.{BeginsDocument, BeginsLine, BeginsText, EndsRows};
 ghost use Rattle.jpick.specs.Runs.{IsRejection, IsStart, PicksValue, is_short};
 ghost use Rattle.jpick.specs.Runs.{TakesDocument, TakesLine, TakesText, Writes};
 ghost use Rattle.jsonl.specs.Failures.{Begins, Ends};
 
-use crate::fields::{Wanted, append_row, is_picked};
+use crate::conditions::meets_all;
+use crate::fields::Wanted;
+use crate::rows::append_needed;
 use jsonl::{Channel, Failure, Words, put_name, rejection_words};
 use simd_json::tape::Value;
 use simd_json::{Buffers, Error, ErrorType, Tape, refill_tape, reserve};
@@ -21,9 +24,9 @@ type Ended = Result<(), Failure>;
 
 /// The lines of a file so far, and the memory for those that follow.
 #[derive(Drop)]
-pub struct Picker<'p, A: Allocator> {
-    wanted: &'p Wanted<'p>,
-    file: &'p str,
+pub struct Picker<'w, 'q, 'f, A: Allocator> {
+    wanted: &'w Wanted<'q>,
+    file: &'f str,
     buffers: Buffers<A>,
     tape: Tape<'static, A>,
     // the line that was read last, as it was before its parse
@@ -35,12 +38,16 @@ pub struct Picker<'p, A: Allocator> {
     all_taken: bool,
 }
 
-impl<'p, A: Allocator + Copy> Picker<'p, A> {
+impl<'w, 'q, 'f, A: Allocator + Copy> Picker<'w, 'q, 'f, A> {
     /// Returns a picker of no lines yet, with all memory reserved that lines need whose rows are
     /// not longer than the lines.
     ///
     /// Returns an error if an allocation fails.
-    pub fn new(a: A, wanted: &'p Wanted<'p>, file: &'p str) -> simd_json::Result<Picker<'p, A>>
+    pub fn new(
+        a: A,
+        wanted: &'w Wanted<'q>,
+        file: &'f str,
+    ) -> simd_json::Result<Picker<'w, 'q, 'f, A>>
         ensures { IfOk result (IsStart wanted.now file.now) }
     {
         let mut buffers = Buffers::empty(a, wanted.depth);
@@ -113,14 +120,17 @@ impl<'p, A: Allocator + Copy> Picker<'p, A> {
         Ok(())
     }
 
-    // Appends the row of a value, if it is picked.
+    // Appends the rows of a value, if it is picked.
     fn pick(&mut self, value: Value<'_, '_>) -> Result<(), AllocError>
+        requires { depth (doc value) ≤ self.old.buffers.limit }
         ensures { OnOk result (PicksValue self.old self.new (doc value.entry)) }
     {
-        if !is_picked(self.wanted, &value) {
+        if !meets_all(self.wanted.filters, &value) {
             return Ok(());
         }
-        append_row(&mut self.rows, &mut self.spare, self.wanted, Some(value))
+        let levels = self.buffers.max_depth().min(value.nodes().len());
+        append_needed(&mut self.rows, &mut self.spare, self.wanted, value, levels)?;
+        Ok(())
     }
 
     // Names the last text as rejected. Without an error it is too long.

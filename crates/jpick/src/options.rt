@@ -1,13 +1,17 @@
 //! What the program's arguments ask for.
-ghost use Rattle.std.specs.Prelude.{◌≡◌, ◌≢◌, [], map, IfOk};
+ghost use Rattle.std.specs.Prelude.{◌≡◌, ◌++◌, ℕ, List, map, IfOk, OnOk};
+ghost use Rattle.std.specs.List.{AllZip};
 ghost use Rattle.clap.specs.Matches.{found_of};
-ghost use Rattle.jpick.specs.Asked.{HasOptions, files_of, flags_of, is_given, layout_of, texts_of};
+ghost use Rattle.jpick.specs.Asked.{HasOptions, IsFilterOf, IsQueryOf, files_of, flags_of};
+ghost use Rattle.jpick.specs.Asked.{is_given, layout_of, texts_of};
 
-use crate::fields::{Filter, Layout, Wanted};
+use crate::fields::{Layout, Wanted};
+use crate::query::{Query, frames};
+use crate::rows::MOST;
 use bumpalo::Bump;
 use clap::{Arg, ArgAction, ArgMatches, Command, Error, value_parser};
-use simd_json::tape::Value;
-use simd_json::{DEFAULT_MAX_DEPTH, ErrorType, Pointer, Tape, to_tape};
+use simd_json::{DEFAULT_MAX_DEPTH, Pointer};
+use simd_json_path::{Filter, Path, PathError, PathExpected};
 use std::alloc::{AllocError, AllocFailed, Global};
 
 const STANDARD_INPUT: &str = "-";
@@ -15,9 +19,10 @@ const STANDARD_INPUT: &str = "-";
 // How many bytes a line may have, if no option says so.
 const LONGEST: u32 = 65_536;
 
-const QUERY_HELP: &str = "Which value is printed: a JSON Pointer (RFC 6901), as /user/name";
+const QUERY_HELP: &str =
+    "What is printed: a JSON Pointer (RFC 6901), as /user/name, or a JSONPath (RFC 9535), as $.users[*].name";
 
-const AND_HELP: &str = "A further value to print, in a column of its own";
+const AND_HELP: &str = "A further query, in a column of its own";
 
 const FILE_HELP: &str = "Files to read; standard input where there is none, or for -";
 
@@ -33,13 +38,10 @@ const HEADER_HELP: &str = "Print the queries in a row of their own first";
 
 const JSON_HELP: &str = "Print each row as a JSON array";
 
-const ALL_HELP: &str = "Leave out a line where a QUERY has no value";
+const ALL_HELP: &str = "Leave out a line where a QUERY selects nothing";
 
-const WHERE_HELP: &str = "Only lines where the value at POINTER is JSON";
-
-const WHERE_NOT_HELP: &str = "Only lines where the value at POINTER is not JSON";
-
-const EXISTS_HELP: &str = "Only lines with a value at POINTER";
+const WHERE_HELP: &str =
+    "Only lines where EXPR holds, as @.status >= 500 && @.level == \"error\" (RFC 9535)";
 
 const QUIET_HELP: &str = "Do not name rejected lines";
 
@@ -50,8 +52,8 @@ const DEPTH_HELP: &str = "How many containers may be open at a time [default: 10
 /// What the arguments ask for.
 #[derive(Drop)]
 pub struct Options<'a> {
-    pointers: Vec<&'a str>,
-    filters: Vec<Filter<'a>>,
+    queries: &'a [Query<'a>],
+    filters: &'a [Filter<'a>],
     flags: Flags,
     longest: u32,
     depth: usize,
@@ -67,28 +69,30 @@ impl<'a> Options<'a> {
     ) -> Result<Options<'a>, Unasked<'a>>
         ensures { IfOk result (HasOptions (found_of matches.now)) }
     {
-        let mut pointers = Vec::new(alloc);
-        pointers.extend_from_slice(texts(matches, "query"))?;
-        pointers.extend_from_slice(texts(matches, "and"))?;
-        for pointer in &pointers {
-            pointer_named(*pointer)?;
+        let mut queries = Vec::new(alloc);
+        push_queries(&mut queries, arena, texts(matches, "query"))?;
+        push_queries(&mut queries, arena, texts(matches, "and"))?;
+        let filters = filters(alloc, arena, texts(matches, "where"))?;
+        let depth = matches
+            .get_one::<usize>("depth")
+            .unwrap_or(DEFAULT_MAX_DEPTH);
+        if frames(&queries, depth) > MOST {
+            return Err(Unasked::TooDeep(depth));
         }
         Ok(Options {
-            pointers,
-            filters: filters(alloc, arena, matches)?,
+            queries: arena.try_alloc_slice_copy(&queries)?,
+            filters: arena.try_alloc_slice_copy(&filters)?,
             flags: Flags::of(matches),
             longest: matches.get_one::<u32>("limit").unwrap_or(LONGEST),
-            depth: matches
-                .get_one::<usize>("depth")
-                .unwrap_or(DEFAULT_MAX_DEPTH),
+            depth,
             files: files(alloc, matches)?,
         })
     }
 
     /// What is picked of each line.
-    pub fn wanted(&self) -> Wanted<'_>
-        ensures pointers { result.pointers.now ≡ self.now.pointers.items }
-        ensures filters { result.filters.now ≡ self.now.filters.items }
+    pub fn wanted(&self) -> Wanted<'a>
+        ensures queries { result.queries.now ≡ self.now.queries.now }
+        ensures filters { result.filters.now ≡ self.now.filters.now }
         ensures layout { result.layout ≡ self.now.flags.layout }
         ensures is_raw { result.is_raw ≡ self.now.flags.is_raw }
         ensures needs_all { result.needs_all ≡ self.now.flags.needs_all }
@@ -98,8 +102,8 @@ impl<'a> Options<'a> {
         ensures is_document { result.is_document ≡ self.now.flags.is_document }
     {
         Wanted {
-            pointers: self.pointers.as_slice(),
-            filters: self.filters.as_slice(),
+            queries: self.queries,
+            filters: self.filters,
             layout: self.flags.layout,
             is_raw: self.flags.is_raw,
             needs_all: self.flags.needs_all,
@@ -199,10 +203,14 @@ fn files<'a>(alloc: Global, matches: &ArgMatches<'a>) -> Result<Vec<&'a str>, Al
 pub enum Unasked<'a> {
     /// The text of `--help` or `--version`, or what is not understood.
     Text(Error),
-    /// A text that is not a JSON Pointer.
-    NoPointer(&'a str),
-    /// A condition that is not a JSON Pointer, `=` and a JSON text.
-    NoCondition(&'a str),
+    /// A text that is neither a JSON Pointer nor begins with `$`.
+    NoQuery(&'a str),
+    /// A text that begins with `$` and is no JSONPath, where that is, and what it lacks there.
+    NoPath(&'a str, PathError),
+    /// A text that is no condition, where that is, and what it lacks there.
+    NoCondition(&'a str, PathError),
+    /// This depth limit and the segments of a JSONPath with `..` are together more than 1,088.
+    TooDeep(usize),
     /// An allocation failed.
     Memory,
 }
@@ -225,8 +233,8 @@ impl From<Error> for Unasked<'_> {
     }
 }
 
-/// Returns what the arguments ask for; the first word is the program's name. The values of
-/// conditions lie in the arena.
+/// Returns what the arguments ask for; the first word is the program's name. What queries and
+/// conditions are made of lies in the arena.
 pub fn asked<'a>(
     alloc: Global,
     arena: &'a Bump,
@@ -236,58 +244,63 @@ pub fn asked<'a>(
     Options::of(alloc, arena, &matches)
 }
 
+// Appends the queries of texts.
+fn push_queries<'a>(
+    queries: &mut Vec<Query<'a>>,
+    arena: &'a Bump,
+    texts: &[&'a str],
+) -> Result<(), Unasked<'a>>
+    ensures { (old : List (List ℕ)) → AllZip IsQueryOf queries.old.items old
+        → OnOk result (AllZip IsQueryOf queries.new.items
+        (old ++ map (λ text. text.now) texts.now)) }
+{
+    for text in texts {
+        queries.push(query_named(arena, *text)?)?;
+    }
+    Ok(())
+}
+
+// The query of a text. A pointer of more tokens than containers may be open leads nowhere.
+fn query_named<'a>(arena: &'a Bump, text: &'a str) -> Result<Query<'a>, Unasked<'a>>
+    ensures { IfOk result (λ query. IsQueryOf query text.now) }
+{
+    if let [b'$', ..] = text.as_bytes() {
+        return match Path::new(arena, text) {
+            Ok(path) => Ok(Query::Path(text, path)),
+            Err(e) if e.expected == PathExpected::Memory => Err(Unasked::Memory),
+            Err(e) => Err(Unasked::NoPath(text, e)),
+        };
+    }
+    match Pointer::<DEFAULT_MAX_DEPTH>::new(text) {
+        Some(_) => Ok(Query::Pointer(text)),
+        None => Err(Unasked::NoQuery(text)),
+    }
+}
+
+// The conditions of texts.
 fn filters<'a>(
     alloc: Global,
     arena: &'a Bump,
-    matches: &ArgMatches<'a>,
-) -> Result<Vec<Filter<'a>>, Unasked<'a>> {
+    texts: &[&'a str],
+) -> Result<Vec<Filter<'a>>, Unasked<'a>>
+    ensures { IfOk result (λ filters. AllZip IsFilterOf filters.items
+        (map (λ text. text.now) texts.now)) }
+{
     let mut filters = Vec::new(alloc);
-    for condition in texts(matches, "where") {
-        let (pointer, value) = condition_named(alloc, arena, *condition)?;
-        filters.push(Filter::Is(pointer, value))?;
-    }
-    for condition in texts(matches, "where-not") {
-        let (pointer, value) = condition_named(alloc, arena, *condition)?;
-        filters.push(Filter::IsNot(pointer, value))?;
-    }
-    for pointer in texts(matches, "exists") {
-        filters.push(Filter::Exists(pointer_named(*pointer)?))?;
+    for text in texts {
+        filters.push(filter_named(arena, *text)?)?;
     }
     Ok(filters)
 }
 
-// The word, if it is a JSON Pointer. One of more tokens than containers may be open leads nowhere.
-fn pointer_named(word: &str) -> Result<&str, Unasked<'_>> {
-    match Pointer::<DEFAULT_MAX_DEPTH>::new(word) {
-        Some(_) => Ok(word),
-        None => Err(Unasked::NoPointer(word)),
-    }
-}
-
-// The pointer before the first `=`, and the value of the JSON text after it.
-fn condition_named<'a>(
-    alloc: Global,
-    arena: &'a Bump,
-    condition: &'a str,
-) -> Result<(&'a str, Value<'a, 'a>), Unasked<'a>> {
-    let Some((pointer, json)) = condition.split_once('=') else {
-        return Err(Unasked::NoCondition(condition));
-    };
-    let pointer = pointer_named(pointer)?;
-    let tape = match to_tape(alloc, arena.try_alloc_slice_copy(json.as_bytes())?) {
-        Ok(tape) => tape,
-        Err(e) if *e.error() == ErrorType::OutOfMemory => return Err(Unasked::Memory),
-        Err(_) => return Err(Unasked::NoCondition(condition)),
-    };
-    Ok((pointer, value_in(arena, tape)?))
-}
-
-// The value of a tape that lives as long as the arena.
-fn value_in<'a>(arena: &'a Bump, tape: Tape<'a>) -> Result<Value<'a, 'a>, AllocError>
-    requires { tape.nodes ≢ [] }
+fn filter_named<'a>(arena: &'a Bump, text: &'a str) -> Result<Filter<'a>, Unasked<'a>>
+    ensures { IfOk result (λ filter. IsFilterOf filter text.now) }
 {
-    let tape: &'a Tape<'a> = arena.try_alloc(tape)?;
-    Ok(tape.as_value())
+    match Filter::new(arena, text) {
+        Ok(filter) => Ok(filter),
+        Err(e) if e.expected == PathExpected::Memory => Err(Unasked::Memory),
+        Err(e) => Err(Unasked::NoCondition(text, e)),
+    }
 }
 
 fn flag<'a>(alloc: Global, name: &'a str, help: &'a str) -> Arg<'a> {
@@ -317,8 +330,8 @@ fn command<'a>(alloc: Global) -> Result<Command<'a>, Error> {
         .action(ArgAction::Append)
         .num_args(0..)
         .help(FILE_HELP);
-    let command = Command::new(alloc, "jpick").version("0.2.0").about(
-        "Prints the values at JSON Pointers in each line of JSON Lines, or in documents",
+    let command = Command::new(alloc, "jpick").version("0.3.0").about(
+        "Prints what JSON Pointers or JSONPaths select of each line of JSON Lines, or of documents",
     );
     let command = with_rows(alloc, command)?;
     let command = with_lines(alloc, command)?;
@@ -358,9 +371,7 @@ fn with_lines<'a>(alloc: Global, command: Command<'a>) -> Result<Command<'a>, Er
         command
             .arg(flag(alloc, "document", DOCUMENT_HELP).short('d'))?
             .arg(flag(alloc, "all", ALL_HELP))?
-            .arg(repeated(alloc, "where", "POINTER=JSON", WHERE_HELP))?
-            .arg(repeated(alloc, "where-not", "POINTER=JSON", WHERE_NOT_HELP))?
-            .arg(repeated(alloc, "exists", "POINTER", EXISTS_HELP))?
+            .arg(repeated(alloc, "where", "EXPR", WHERE_HELP))?
             .arg(flag(alloc, "quiet", QUIET_HELP).short('q'))?
             .arg(limit)?
             .arg(depth)?,

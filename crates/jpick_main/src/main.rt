@@ -1,4 +1,4 @@
-//! `jpick [OPTION].. QUERY [FILE..]` prints the values at JSON Pointers in each line of JSON Lines.
+//! `jpick [OPTION].. QUERY [FILE..]` prints what queries select of each line of JSON Lines.
 //! docs/LINES.md says what it prints. The library `jpick` picks; here are files and the status.
 #![tactic(auto)]
 
@@ -32,9 +32,19 @@ fn program(rt: &HostRuntime, words: &[String]) -> u8 {
             2
         }
         Err(Unasked::Text(e)) => help_status(rt, "jpick", &e.print(rt)),
-        Err(Unasked::NoPointer(word)) => print_unasked(rt, word),
-        Err(Unasked::NoCondition(condition)) => {
-            let _ = eprintln!(rt; "jpick: `{condition}` is not a JSON Pointer, `=` and JSON");
+        Err(Unasked::NoQuery(word)) => print_unasked(rt, word),
+        Err(Unasked::NoPath(word, e)) => {
+            let _ = eprintln!(rt; "jpick: `{word}` is not a JSONPath: {e}");
+            2
+        }
+        Err(Unasked::NoCondition(word, e)) => {
+            let _ = eprintln!(rt; "jpick: `{word}` is not a condition, as `@.status == 500`: {e}");
+            2
+        }
+        Err(Unasked::TooDeep(depth)) => {
+            let _ = eprintln!(rt;
+                "jpick: depth {depth} and the segments of a JSONPath with `..` are together more than 1088"
+            );
             2
         }
         Err(Unasked::Memory) => {
@@ -47,9 +57,9 @@ fn program(rt: &HostRuntime, words: &[String]) -> u8 {
 // Prints that the word is no query.
 fn print_unasked(rt: &HostRuntime, word: &str) -> u8 {
     let reason = if Path::new(word).is_file(rt) {
-        "is a file; the first word is the query, a JSON Pointer"
+        "is a file; the first word is the query, a JSON Pointer or a JSONPath"
     } else {
-        "is not a JSON Pointer"
+        "is neither a JSON Pointer nor a JSONPath, which begins with `$`"
     };
     let _ = eprintln!(rt; "jpick: `{word}` {reason}");
     2
@@ -57,7 +67,7 @@ fn print_unasked(rt: &HostRuntime, word: &str) -> u8 {
 
 // The query, if it names a file, and lines would come from a terminal.
 fn file_for_query<'o>(rt: &HostRuntime, options: &'o Options<'_>) -> Option<&'o str> {
-    let query = *options.wanted().pointers.first()?;
+    let query = options.wanted().queries.first()?.text();
     let is_awaited = matches!(options.files(), ["-"]) && rt.stdin().is_terminal();
     (is_awaited && Path::new(query).is_file(rt)).then_some(query)
 }

@@ -1,8 +1,8 @@
 //! `log_fields KEY ..` reads JSON Lines from standard input and prints for each line the values of
 //! these keys, as they are written: a tab between two, and `-` for a key that is not there.
 //!
-//! A line is checked only where it is read. Where a token stands there that is not expected, the
-//! rest of the line's values are `-` too, and the place is reported on standard error. The program
+//! A line is checked only where it is read. After a token that is not expected there, the rest of
+//! the line's values are `-` too, and the place is reported on standard error. The program
 //! stops with status 3 at a line of more than 65,536 bytes, at one that is not UTF-8 or leaves a
 //! string open, and if reading, writing or an allocation fails.
 #![tactic(auto)]

@@ -9,6 +9,8 @@
 //! int64_t simd_json_bench_scan_all(const uint8_t *texts, size_t size, size_t stride, size_t len);
 //! uint64_t simd_json_bench_tape(uint8_t *texts, size_t size, size_t stride, size_t len,
 //!                               uint32_t task);
+//! uint64_t simd_json_bench_path(uint8_t *texts, size_t size, size_t stride, size_t len,
+//!                               uint32_t task);
 //! uint64_t simd_json_bench_find(const uint8_t *texts, size_t size, size_t stride, size_t len,
 //!                               uint32_t task);
 //! uint64_t simd_json_bench_check(const uint8_t *texts, size_t size, size_t stride, size_t len,
@@ -22,7 +24,7 @@
 //! count is too great. All but the first take texts of `len` bytes, one at the front of each whole
 //! `stride` of `texts`, or lines that end with a line feed.
 //!
-//! The others do a task by a kept tape, on demand, and on demand after a check; `tasks` lists them.
+//! The others do a task by a kept tape, by a query over one, on demand, and on demand after a check; `tasks` lists them.
 //! They return 2^64 - 1 if a text was rejected or has not what the task asks for.
 #![tactic(auto)]
 
@@ -126,6 +128,18 @@ pub extern "C" fn simd_json_bench_tape(
     task: u32,
 ) -> u64 {
     tasks::tape::of_texts(alloc, texts, stride, len, task).unwrap_or(tasks::NONE)
+}
+
+/// The same by a query over a tape.
+#[unsafe(no_mangle)]
+pub extern "C" fn simd_json_bench_path(
+    alloc: Global,
+    texts: &mut [u8],
+    stride: usize,
+    len: usize,
+    task: u32,
+) -> u64 {
+    tasks::path::of_texts(alloc, texts, stride, len, task).unwrap_or(tasks::NONE)
 }
 
 /// The same on demand.

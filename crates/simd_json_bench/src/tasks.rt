@@ -10,13 +10,19 @@
 //! | 4 | of each performance the event and the amounts |
 //! | 5 | of each coordinate how long its literal is |
 //! | 6 | each coordinate as a float |
+//! | 8 | the amounts of the prices of each performance, [`ASKED`] times |
+//! | 9 | each amount, wherever it is, [`ASKED`] times |
 //!
 //! Each is a sum, modulo 2^64, on which all contenders agree.
 pub(crate) mod on_demand;
+pub(crate) mod path;
 pub(crate) mod tape;
 
 // The id of the tweet that is looked for.
 const WANTED: u64 = 505_874_901_689_851_900;
+
+// How often each text is asked for its amounts, so that this takes longer than the parse.
+const ASKED: u32 = 32;
 
 // Reported where a text or a value of it is missing.
 pub(crate) const NONE: u64 = u64::MAX;

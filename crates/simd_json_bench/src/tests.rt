@@ -28,3 +28,18 @@ fn texts_lie_at_strides(rt: HostRuntime) -> Tested {
     assert_eq!(rt; simd_json_bench_parse_all(rt.alloc(), &mut open, 0, 5), 0);
     Ok(())
 }
+
+#[test]
+fn a_query_selects_what_loops_find(rt: HostRuntime) -> Tested {
+    let text = b"{\"performances\":[{\"prices\":[{\"amount\":2},{\"amount\":3}]}],\"amount\":5}";
+    for (task, wanted) in [(8, 5 * 32), (9, 10 * 32)] {
+        let mut input = *text;
+        let len = input.len();
+        let by_hand = simd_json_bench_tape(rt.alloc(), &mut input, len, len, task);
+        assert_eq!(rt; by_hand, wanted);
+        let mut input = *text;
+        let by_path = simd_json_bench_path(rt.alloc(), &mut input, len, len, task);
+        assert_eq!(rt; by_path, wanted);
+    }
+    Ok(())
+}

@@ -1,4 +1,5 @@
 -- What a call leaves that is made with the lists of an open parser, by what it returns for them.
+use denote.RawPtr.{Ptr}
 use Rattle.std.specs.Prelude.{◌≡◌, ◌⊎◌, ℕ, ℤ, pos, List, IsUtf8, Bool, Option, Some, None, Result, Ok, Err, IfOk, IfErr, MatchResult}
 use Rattle.std.specs.Prelude.{length}
 use Rattle.std.specs.Result.{result_err}
@@ -37,14 +38,14 @@ checked-with old new was lists b (Ok s) status place kept told is zero =
 checked-with old new was lists b (Err e) status place kept told is zero =
     rw kept.0 (lists, kept.1, kept.2, (Some e, is, told.1, told.0))
 
-pub parsed-with : (old new : Option Lists) (was lists : Lists) (b : List ℕ) (r : Result ℤ Error) (status : ℤ) (place : ErrorPlace)
-    (old_lent lent : Lent) → AreKeptOpen old new was lists → IsReported r status place
-    → IfOk r (λ s. (ns : List Item) × IsReadWith was b None ns × AreLent ns was lists s old_lent lent)
+pub parsed-with : (old new : Option Lists) (was lists : Lists) (address : Ptr) (b bytes : List ℕ) (r : Result ℤ Error) (status : ℤ)
+    (place : ErrorPlace) (old_lent lent : Lent) → AreKeptOpen old new was lists → IsReported r status place
+    → IfOk r (λ s. (ns : List Item) × IsReadWith was b None ns × AreLent ns address bytes was lists s old_lent lent)
     → IfErr r (λ e. (ns : List Item) × IsReadWith was b (Some e) ns × (lent ≡ old_lent))
-    → IsParsedWith old new b status place old_lent lent
-parsed-with old new was lists b (Ok s) status place old_lent lent kept told are none =
+    → IsParsedWith old new address b bytes status place old_lent lent
+parsed-with old new was lists address b bytes (Ok s) status place old_lent lent kept told are none =
     rw kept.0 (lists, kept.1, kept.2, (None, are.0, are.1, told.0, rw told.1 are.2))
-parsed-with old new was lists b (Err e) status place old_lent lent kept told are none =
+parsed-with old new was lists address b bytes (Err e) status place old_lent lent kept told are none =
     rw kept.0 (lists, kept.1, kept.2, (Some e, none.0, none.1, told.0, (told.1, none.2)))
 
 pub printed-with : (old new : Option Lists) (was lists : Lists) (b : List ℕ) (is_pretty : Bool) (pointer : List ℕ) (r : Result ℤ Error)

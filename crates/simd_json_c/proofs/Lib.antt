@@ -1,8 +1,6 @@
-mod Bounds
 mod Whole
 mod LooseValues
 mod HeldValues
-mod Laying
 mod Keeping
 mod Placing
 mod Calling

@@ -1,9 +1,8 @@
 -- Where the values of a document lie among nodes that list it.
-use Rattle.std.proofs.Common.{◌≡◌, ◌≢◌, ◌∙◌, ap, sym, subst, refl, ℕ, zero, suc, ◌+◌, ◌-◌, ◌≤◌, ◌<◌, arith, Bool, true, false}
-use Rattle.std.proofs.Common.{List, [], ◌∷◌, ◌++◌, length, take, drop, get_or, drop-drop, length-drop, append_assoc, Some, None}
-use Rattle.std.proofs.lemmas.List.{length-append, drop_at, drop_more, get_or-drop}
+use Rattle.std.proofs.Common.{◌≡◌, ◌≢◌, ◌∙◌, ap, ap₂, sym, subst, refl, ℕ, zero, suc, ◌+◌, ◌-◌, ◌≤◌, ◌<◌, arith, Bool, true, false}
+use Rattle.std.proofs.Common.{List, [], ◌∷◌, ◌++◌, length, take, drop, get_or, drop-drop, length-drop, Some, None}
+use Rattle.std.proofs.lemmas.List.{drop_more, get_or-drop, length-take}
 use Rattle.std.proofs.lemmas.Option.{slice_get-get_or}
-use Rattle.std.proofs.Math.Seq.{take-append_seam}
 use Rattle.std.proofs.lemmas.Slice.Eq.{bytes_eq-Decides}
 use Rattle.std.proofs.lemmas.Bool.{and_parts, leb-true, ltb-false, ltb-true}
 use Rattle.std.proofs.lemmas.Str.{IsUtf8-from_ascii}
@@ -23,102 +22,83 @@ use Rattle.simd_json_parts.specs.Pointed.{is_array_index, member_at, named, unes
 use Rattle.simd_json_parts.specs.Views.{get}
 use Rattle.simd_json_parts.specs.declared.node.StaticNode.{StaticNode}
 use Rattle.simd_json_parts.specs.declared.node.StaticNode.TheVariants as fixed
-use Rattle.simd_json_c.specs.Nodes.{node_of, nodes_from, span, static_node, text_of, texts}
-use Rattle.simd_json_c.specs.Placed.{AreAt, IsValueAt, before_element, before_followed, before_member, before_named, key_of}
+use Rattle.simd_json_c.specs.Nodes.{item_node, span, static_node}
+use Rattle.simd_json_c.specs.Placed.{AreAt, AreFirst, IsNodeOf, IsValueAt, before_element, before_followed, before_member, before_named}
+use Rattle.simd_json_c.specs.Placed.{key_of}
 use Rattle.simd_json_c.specs.declared.nodes.Node.{Node}
 use Rattle.simd_json_parts.proofs.Pointers.Keys.{unescaped-plain}
 use Rattle.simd_json_parts.proofs.Pointers.Pointed.{member-here, member-later, member-none}
 
 -- ---- parts of a list
 
-pub length-nodes : (start : ℕ) (ns : List Item) → length (nodes_from start ns) ≡ length ns
-length-nodes start [] = refl
-length-nodes start (n ∷ ns) = ap suc (length-nodes (start + length (text_of n)) ns)
+first-front : (text : List ℕ) (xs ys : List Item) (nodes : List Node) → AreFirst text (xs ++ ys) nodes → AreFirst text xs nodes
+first-front text [] ys nodes are = tt
+first-front text (x ∷ xs) ys [] are = absurd are
+first-front text (x ∷ xs) ys (node ∷ nodes) are = (are.0, first-front text xs ys nodes are.1)
 
-nodes-append : (start : ℕ) (xs ys : List Item)
-    → nodes_from start (xs ++ ys) ≡ nodes_from start xs ++ nodes_from (start + length (texts xs)) ys
-nodes-append start [] ys = ap (λ s. nodes_from s ys) (omega arith)
-nodes-append start (x ∷ xs) ys =
-    let next = start + length (text_of x) in
-    let along : next + length (texts xs) ≡ start + length (texts (x ∷ xs)) = omega (arith, length-append (text_of x) (texts xs)) in
-    ap (λ r. node_of start x ∷ r) (nodes-append next xs ys ∙ ap (λ s. nodes_from next xs ++ nodes_from s ys) along)
+first-back : (text : List ℕ) (xs ys : List Item) (nodes : List Node) → AreFirst text (xs ++ ys) nodes
+    → AreFirst text ys (drop (length xs) nodes)
+first-back text [] ys nodes are = are
+first-back text (x ∷ xs) ys [] are = absurd are
+first-back text (x ∷ xs) ys (node ∷ nodes) are = first-back text xs ys nodes are.1
 
-texts-append : (xs ys : List Item) → texts (xs ++ ys) ≡ texts xs ++ texts ys
-texts-append [] ys = refl
-texts-append (x ∷ xs) ys = ap (λ t. text_of x ++ t) (texts-append xs ys) ∙ sym (append_assoc (text_of x) (texts xs) (texts ys))
+first-few : (text : List ℕ) (xs : List Item) (nodes : List Node) → AreFirst text xs nodes → length xs ≤ length nodes
+first-few text [] nodes are = omega arith
+first-few text (x ∷ xs) [] are = absurd are
+first-few text (x ∷ xs) (node ∷ nodes) are = omega (arith, first-few text xs nodes are.1)
 
-nodes-split : (nodes : List Node) (text : List ℕ) (i : ℕ) (xs ys : List Item) (a : AreAt nodes text i (xs ++ ys))
-    → drop i nodes ≡ nodes_from a.start xs ++ (nodes_from (a.start + length (texts xs)) ys ++ a.behind)
-nodes-split nodes text i xs ys a =
-    a.nodes_are ∙ ap (λ l. l ++ a.behind) (nodes-append a.start xs ys)
-    ∙ append_assoc (nodes_from a.start xs) (nodes_from (a.start + length (texts xs)) ys) a.behind
-
-texts-split : (nodes : List Node) (text : List ℕ) (i : ℕ) (xs ys : List Item) (a : AreAt nodes text i (xs ++ ys))
-    → drop a.start text ≡ texts xs ++ (texts ys ++ a.text_behind)
-texts-split nodes text i xs ys a =
-    a.texts_are ∙ ap (λ l. l ++ a.text_behind) (texts-append xs ys) ∙ append_assoc (texts xs) (texts ys) a.text_behind
+first-node : (text : List ℕ) (x : Item) (xs : List Item) (nodes : List Node) (d : Node) → AreFirst text (x ∷ xs) nodes
+    → IsNodeOf text (get_or nodes 0 d) x
+first-node text x xs [] d are = absurd are
+first-node text x xs (node ∷ nodes) d are = are.0
 
 pub front-at : (nodes : List Node) (text : List ℕ) (i : ℕ) (xs ys : List Item) → AreAt nodes text i (xs ++ ys) → AreAt nodes text i xs
-front-at nodes text i xs ys a = record {
-  start = a.start;
-  behind = nodes_from (a.start + length (texts xs)) ys ++ a.behind;
-  text_behind = texts ys ++ a.text_behind;
-  nodes_are = nodes-split nodes text i xs ys a;
-  texts_are = texts-split nodes text i xs ys a;
-}
+front-at nodes text i xs ys a = first-front text xs ys (drop i nodes) a
 
 pub back-at : (nodes : List Node) (text : List ℕ) (i : ℕ) (xs ys : List Item) → AreAt nodes text i (xs ++ ys)
     → AreAt nodes text (i + length xs) ys
-back-at nodes text i xs ys a =
-    let next = a.start + length (texts xs) in record {
-      start = next;
-      behind = a.behind;
-      text_behind = a.text_behind;
-      nodes_are =
-          sym (drop-drop (length xs) i nodes) ∙ ap (drop (length xs)) (nodes-split nodes text i xs ys a)
-          ∙ drop_at (nodes_from a.start xs) (nodes_from next ys ++ a.behind) (length xs) (length-nodes a.start xs);
-      texts_are =
-          sym (drop-drop (length (texts xs)) a.start text) ∙ ap (drop (length (texts xs))) (texts-split nodes text i xs ys a)
-          ∙ drop_at (texts xs) (texts ys ++ a.text_behind) (length (texts xs)) refl;
-    }
+back-at nodes text i xs ys a = subst (AreFirst text ys) (drop-drop (length xs) i nodes) (first-back text xs ys (drop i nodes) a)
 
 -- all lie within the nodes
 pub within-at : (nodes : List Node) (text : List ℕ) (i : ℕ) (x : Item) (ns : List Item) → AreAt nodes text i (x ∷ ns)
     → i + length (x ∷ ns) ≤ length nodes
-within-at nodes text i x ns a =
-    omega (
-      arith,
-      length-drop i nodes,
-      ap length a.nodes_are,
-      length-append (nodes_from a.start (x ∷ ns)) a.behind,
-      length-nodes a.start (x ∷ ns),
-    )
+within-at nodes text i x ns a = omega (arith, length-drop i nodes, first-few text (x ∷ ns) (drop i nodes) a)
 
 -- ---- the first node, and its text
 
-pub node-at : (nodes : List Node) (text : List ℕ) (i : ℕ) (x : Item) (ns : List Item) (d : Node) (a : AreAt nodes text i (x ∷ ns))
-    → get_or nodes i d ≡ node_of a.start x
+pub node-at : (nodes : List Node) (text : List ℕ) (i : ℕ) (x : Item) (ns : List Item) (d : Node) → AreAt nodes text i (x ∷ ns)
+    → IsNodeOf text (get_or nodes i d) x
 node-at nodes text i x ns d a =
-    ap (λ k. get_or nodes k d) (omega arith) ∙ sym (get_or-drop i nodes 0 d) ∙ ap (λ l. get_or l 0 d) a.nodes_are
+    let here : i + 0 ≡ i = omega arith in
+    subst (λ n. IsNodeOf text n x) (get_or-drop i nodes 0 d ∙ ap (λ k. get_or nodes k d) here) (first-node text x ns (drop i nodes) d a)
 
-pub key-at : (nodes : List Node) (text : List ℕ) (i : ℕ) (k : List ℕ) (ns : List Item) (a : AreAt nodes text i (string_item k ∷ ns))
-    → (length k ≤ length text - a.start) × (take (length k) (drop a.start text) ≡ k)
-key-at nodes text i k ns a =
-    let split = a.texts_are ∙ append_assoc k (texts ns) a.text_behind in (
-      omega (arith, length-drop a.start text, ap length split, length-append k (texts ns ++ a.text_behind)),
-      ap (take (length k)) split ∙ take-append_seam k (texts ns ++ a.text_behind),
+pub key-of : (text : List ℕ) (node : Node) (k : List ℕ) → IsNodeOf text node (string_item k)
+    → (node.len ≡ length k) × (node.len ≤ length text - node.value) × (take node.len (drop node.value text) ≡ k)
+key-of text node k is =
+    let len : node.len ≡ length is.part = ap (λ (n : Node). n.len) is.node_is in
+    let at : node.value ≡ is.at = ap (λ (n : Node). n.value) is.node_is in (
+      len ∙ ap length is.is_text,
+      omega (
+        arith,
+        len,
+        at,
+        ap length is.there,
+        length-take (length is.part) (drop is.at text),
+        length-drop is.at text,
+      ),
+      ap₂ (λ l i. take l (drop i text)) len at ∙ is.there ∙ is.is_text,
     )
 
 -- ---- headers
 
-static-kind : (start : ℕ) (s : StaticNode) → (static_node start s).kind < 8
-static-kind start fixed.Null = omega arith
-static-kind start (fixed.Bool false) = omega arith
-static-kind start (fixed.Bool true) = omega arith
-static-kind start (fixed.I64 z) = omega arith
-static-kind start (fixed.U64 n) = omega arith
-static-kind start (fixed.I128 z) = omega arith
-static-kind start (fixed.U128 n) = omega arith
+static-kind : (at len : ℕ) (s : StaticNode) → (static_node at len s).kind < 8
+static-kind at len fixed.Null = omega arith
+static-kind at len (fixed.Bool false) = omega arith
+static-kind at len (fixed.Bool true) = omega arith
+static-kind at len (fixed.I64 z) = omega arith
+static-kind at len (fixed.U64 n) = omega arith
+static-kind at len (fixed.I128 z) = omega arith
+static-kind at len (fixed.U128 n) = omega arith
 
 -- what the header of a document says
 pub record Header (d : Document) (node : Node) : Type 0 where
@@ -163,16 +143,18 @@ headed (string t) = refl
 headed (array ds) = refl
 headed (object ms) = refl
 
-header-of : (start : ℕ) (d : Document) → Header d (node_of start (head d))
-header-of start null = scalar-header null (node_of start (head null)) refl (static-kind start fixed.Null) (λ t. (refl, refl))
-header-of start (boolean b) =
-    scalar-header (boolean b) (node_of start (head (boolean b))) refl (static-kind start (fixed.Bool b)) (λ t. (refl, refl))
-header-of start (integer minus n) =
-    scalar-header (integer minus n) (node_of start (head (integer minus n))) refl (static-kind start (integer_node minus n))
+header-of : (at len : ℕ) (d : Document) → Header d (item_node at len (head d))
+header-of at len null = scalar-header null (item_node at len (head null)) refl (static-kind at len fixed.Null) (λ t. (refl, refl))
+header-of at len (boolean b) =
+    scalar-header (boolean b) (item_node at len (head (boolean b))) refl (static-kind at len (fixed.Bool b)) (λ t. (refl, refl))
+header-of at len (integer minus n) =
+    scalar-header (integer minus n) (item_node at len (head (integer minus n))) refl (static-kind at len (integer_node minus n))
     (λ t. (refl, refl))
-header-of start (decimal l) = scalar-header (decimal l) (node_of start (head (decimal l))) refl (omega arith) (λ t. (refl, refl))
-header-of start (string t) = scalar-header (string t) (node_of start (head (string t))) refl (omega arith) (λ u. (refl, refl))
-header-of start (array ds) = record {
+header-of at len (decimal l) =
+    scalar-header (decimal l) (item_node at len (head (decimal l))) refl (omega arith) (λ t. (refl, refl))
+header-of at len (string t) =
+    scalar-header (string t) (item_node at len (head (string t))) refl (omega arith) (λ u. (refl, refl))
+header-of at len (array ds) = record {
   scalar = λ less. absurd (omega (arith, less));
   beneath = λ more. refl;
   of_array = λ is. (ds, refl, refl);
@@ -180,7 +162,7 @@ header-of start (array ds) = record {
   of_other = λ no no' t. absurd (no refl);
   keyless = λ no key. refl;
 }
-header-of start (object ms) = record {
+header-of at len (object ms) = record {
   scalar = λ less. absurd (omega (arith, less));
   beneath = λ more. refl;
   of_array = λ is. absurd (omega (arith, is));
@@ -192,8 +174,8 @@ header-of start (object ms) = record {
 pub value-header : (nodes : List Node) (text : List ℕ) (i : ℕ) (d : Document) (n : Node) → IsValueAt nodes text i d
     → Header d (get_or nodes i n)
 value-header nodes text i d n a =
-    let b = subst (AreAt nodes text i) (headed d) a in
-    subst (Header d) (sym (node-at nodes text i (head d) (rest d) n b)) (header-of b.start d)
+    let is = node-at nodes text i (head d) (rest d) n (subst (AreAt nodes text i) (headed d) a) in
+    subst (Header d) (sym is.node_is) (header-of is.at (length is.part) d)
 
 len-by : (t : Bool) (k v b len : ℕ) → nat_lt k 8 ≡ t → (k < 8 → len ≡ 1) → (8 ≤ k → suc v ≡ len) → (8 ≤ k → b ≡ v) → (k < 8 → b ≡ 0)
     → b + 1 ≡ len
@@ -370,16 +352,16 @@ next-member-by : (nodes : List Node) (text : List ℕ) (u : Option (List ℕ)) (
 next-member-by nodes text u ms len first passed at n no_members a count same before less = absurd (omega (arith, count, less))
 next-member-by nodes text u ms len first passed at n (member k d es) a count same before less =
     let beneath = listing d ++ members_listing es in
-    let key = key-at nodes text at k beneath a in
+    let key = key-of text (get_or nodes at n) k (node-at nodes text at (string_item k) beneath n a) in
     let placed = member-value nodes text at k d es a in
     let after = member-after nodes text at k d es a in
-    let next : NextMember nodes text u ms len first passed at (node_of a.start (string_item k)) =
+    let next : NextMember nodes text u ms len first passed at (get_or nodes at n) =
     record {
       key = k;
       value = d;
-      key_len = refl;
-      within = key.0;
-      key_is = key.1;
+      key_len = key.0;
+      within = key.1;
+      key_is = key.2;
       placed = placed;
       here = λ is. sym same ∙ member-here u k d (member k d es) es refl is;
       before =
@@ -395,7 +377,7 @@ next-member-by nodes text u ms len first passed at n (member k d es) a count sam
       };
     } in (
       omega (arith, within-at nodes text at (string_item k) beneath a),
-      subst (NextMember nodes text u ms len first passed at) (sym (node-at nodes text at (string_item k) beneath n a)) next,
+      next,
     )
 
 pub next-member : (nodes : List Node) (text : List ℕ) (u : Option (List ℕ)) (ms : Members) (len first passed at : ℕ) (n : Node)

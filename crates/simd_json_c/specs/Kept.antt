@@ -18,7 +18,7 @@ abbrev pub KeepsRoom : Lists → Lists → Type 0
 KeepsRoom old new =
     (new.buffers.limit ≡ old.buffers.limit) × KeepsCapacities old.buffers new.buffers × (old.tape.capacity ≤ new.tape.capacity)
     × (vec_capacity old.printed ≤ vec_capacity new.printed) × (length old.levels.items ≤ length new.levels.items)
-    × (vec_capacity old.nodes ≤ vec_capacity new.nodes) × (length old.text.items ≤ length new.text.items)
+    × (vec_capacity old.nodes ≤ vec_capacity new.nodes)
 
 -- nor of the lists for an input that is kept
 abbrev pub KeepsSource : Source → Source → Type 0

@@ -1,9 +1,8 @@
--- What is known of nodes that are written to memory, and of what that held before.
+-- What is known of nodes that are written to memory, and of that memory before.
 use Rattle.std.specs.Prelude.{ℕ, List}
-use Rattle.simd_json_parts.specs.Nodes.{Item}
+use Rattle.simd_json_stages.specs.Placed.{Placed}
 
 pub record Note : Type 0 where
-  pub items : List Item
-  pub text_before : List ℕ
-  -- for how many nodes a list had capacity before
+  pub placed : List Placed
+  -- for how many nodes the list had capacity
   pub node_capacity : ℕ

@@ -1,22 +1,33 @@
--- Nodes and texts in the caller's memory that list a document, and the places of its values there.
-use Rattle.std.specs.Prelude.{◌≡◌, ◌+◌, ◌-◌, ◌^◌, ◌==◌, ℕ, suc, Bool, List, [], ◌∷◌, ◌++◌, length, drop, bytes_eq, unwrap_or}
-use Rattle.std.specs.Prelude.{if◌then◌else◌, Option, Some, None, option_map}
+-- Nodes in the caller's memory that list a document, with their texts, and the places of its values there.
+use Rattle.std.specs.Prelude.{◌≡◌, ◌+◌, ◌-◌, ◌^◌, ◌==◌, ℕ, suc, Bool, List, [], ◌∷◌, length, take, drop, bytes_eq, unwrap_or}
+use Rattle.std.specs.Prelude.{if◌then◌else◌, Option, Some, None, option_map, ⊤}
 use Rattle.std.specs.Result.{result_ok}
 use Rattle.simd_json_parts.specs.Document.{Document, array, object, Elements, element, Members, no_members, member}
 use Rattle.simd_json_parts.specs.Followed.{tokens_after}
 use Rattle.simd_json_parts.specs.Listing.{listing}
 use Rattle.simd_json_parts.specs.Nodes.{Item}
 use Rattle.simd_json_parts.specs.Pointed.{array_index, named, unescaped}
-use Rattle.simd_json_c.specs.Nodes.{nodes_from, texts}
+use Rattle.simd_json_stages.specs.Placed.{IsTextOf}
+use Rattle.simd_json_c.specs.Nodes.{item_node}
 use Rattle.simd_json_c.specs.declared.nodes.Node.{Node}
 
--- these lie at an index of the nodes, and their texts one after another from some index of the text on
-pub record AreAt (nodes : List Node) (text : List ℕ) (i : ℕ) (ns : List Item) : Type 0 where
-  pub start : ℕ
-  pub behind : List Node
-  pub text_behind : List ℕ
-  pub nodes_are : drop i nodes ≡ nodes_from start ns ++ behind
-  pub texts_are : drop start text ≡ texts ns ++ text_behind
+-- a node is that of an item, and the item's text, if it has one, lies where the node says
+pub record IsNodeOf (text : List ℕ) (node : Node) (item : Item) : Type 0 where
+  pub at : ℕ
+  pub part : List ℕ
+  pub node_is : node ≡ item_node at (length part) item
+  pub there : take (length part) (drop at text) ≡ part
+  pub is_text : IsTextOf item part
+
+-- the nodes begin with those of the items
+abbrev pub AreFirst : List ℕ → List Item → List Node → Type 0
+AreFirst text [] nodes = ⊤
+AreFirst text (x ∷ ns) [] = ⊥
+AreFirst text (x ∷ ns) (node ∷ nodes) = IsNodeOf text node x × AreFirst text ns nodes
+
+-- these lie at an index of the nodes
+abbrev pub AreAt : List Node → List ℕ → ℕ → List Item → Type 0
+AreAt nodes text i ns = AreFirst text ns (drop i nodes)
 
 -- a value lies there
 abbrev pub IsValueAt : List Node → List ℕ → ℕ → Document → Type 0

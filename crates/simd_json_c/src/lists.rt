@@ -1,5 +1,7 @@
 //! The lists that calls with a parser use one after another, and what is done with them.
-ghost use Rattle.std.specs.Prelude.{◌≡◌, ◌⊎◌, List, IfOk, IfErr, IsUtf8, None, Some, length, pos};
+ghost use Rattle.std.specs.Prelude.{◌≡◌, ◌<◌, ◌⊎◌, List, IfOk, IfErr, IsUtf8, None, Some, length};
+ghost use Rattle.std.specs.Prelude.{pos};
+ghost use Rattle.std.specs.Ptr.{as_mut_ptr, as_ptr};
 ghost use Rattle.std.specs.Result.{result_err};
 ghost use Rattle.std.specs.Vec.{vec_capacity};
 ghost use Rattle.simd_json.specs.Capacities.{KeepsCapacities};
@@ -21,7 +23,6 @@ use crate::status::{ErrorPlace, NO_VALUE, OUT_OF_MEMORY, reported};
 use simd_json::{Buffers, Result, Tape, refill_tape};
 use simd_json_print::document::Level;
 use std::alloc::Global;
-use std::marker::Brand;
 use std::mem::replace;
 
 /// Whether the input is a document with at most `max_depth` containers open at a time.
@@ -62,9 +63,8 @@ pub struct Lists {
     pub(crate) printed: Vec<u8>,
     // what is open while it is printed, past a few containers
     pub(crate) levels: Vec<Level>,
-    // the nodes and the texts that are lent
+    // the nodes that are lent
     pub(crate) nodes: Vec<Node>,
-    pub(crate) text: Vec<u8>,
     // the input in which values are found
     pub(crate) source: Source,
 }
@@ -80,7 +80,6 @@ impl Lists {
             printed: Vec::new(alloc),
             levels: Vec::new(alloc),
             nodes: Vec::new(alloc),
-            text: Vec::new(alloc),
             source: Source::new(alloc),
         }
     }
@@ -167,27 +166,33 @@ impl Lists {
         }
     }
 
-    // Keeps the nodes of a document and their texts, and lends them. Returns 0 or `OUT_OF_MEMORY`.
+    // Keeps the nodes of a document, and lends them. Returns 0 or `OUT_OF_MEMORY`.
     pub(crate) fn parse(&mut self, input: &mut [u8], lent: &mut Lent) -> Result<i32>
         ensures lent { IfOk result (λ status. (ns : List Item)
-            × IsReadWith self.old input.old None ns
-            × AreLent ns self.old self.new status lent.old lent.new) }
+            × IsReadWith self.old input.old None ns × AreLent ns (as_mut_ptr input.entry) input.new
+            self.old self.new status lent.old lent.new) }
         ensures rejected { IfErr result (λ e. (ns : List Item)
             × IsReadWith self.old input.old (Some e) ns × (lent.new ≡ lent.old)) }
         ensures kept { KeepsLists self.old self.new }
     {
         self.nodes.clear();
-        match keep::<Brand>(&mut self.buffers, input, &mut self.nodes, &mut self.text)? {
-            Some(text_len) => {
-                *lent = Lent {
-                    nodes: self.nodes.as_ptr(),
-                    nodes_len: self.nodes.len(),
-                    text: self.text.as_ptr(),
-                    text_len,
-                };
-                Ok(0)
-            }
-            None => Ok(OUT_OF_MEMORY),
+        if !keep(&mut self.buffers, input, &mut self.nodes)? {
+            return Ok(OUT_OF_MEMORY);
         }
+        *lent = Lent {
+            nodes: self.nodes.as_ptr(),
+            nodes_len: self.nodes.len(),
+            text: address(input),
+            text_len: input.len(),
+        };
+        Ok(0)
     }
+}
+
+// The address of an input that is not empty.
+fn address(input: &[u8]) -> *const u8
+    requires { 0 < length input.now }
+    ensures { result ≡ as_ptr input.entry }
+{
+    std::ptr::from_ref(&input[0])
 }

@@ -1,11 +1,11 @@
 //! Nodes as a program in C gets them.
-ghost use Rattle.std.specs.Prelude.{◌≡◌, ℕ, false, length, true};
+ghost use Rattle.std.specs.Prelude.{◌≡◌, ℕ, false, true};
 ghost use Rattle.simd_json_parts.specs.Nodes.{static_item};
 ghost use Rattle.simd_json_stages.specs.Building.{header_of};
-ghost use Rattle.simd_json_c.specs.Nodes.{is_wide, node_of, span, text_of};
+ghost use Rattle.simd_json_stages.specs.Placed.{is_long, textless};
+ghost use Rattle.simd_json_c.specs.Nodes.{span, static_node};
 ghost use Rattle.simd_json_c.specs.Loans.{cut, cut_of};
 
-use itoa::Buffer;
 use simd_json::{Container, StaticNode};
 
 /// A node of a tape.
@@ -16,7 +16,7 @@ pub struct Node {
     pub kind: u32,
     /// The length of its text in bytes, or its number of members.
     pub len: u32,
-    /// The start of its text, the number of nodes beneath it, or its number.
+    /// The place of its text in the input, the number of nodes beneath it, or its number.
     pub value: u64,
 }
 
@@ -36,7 +36,7 @@ pub(crate) fn span_of(kind: u32, len: usize, value: usize) -> Node
 // The header of a container with `len` members and `count` nodes beneath it.
 #[inline(always)]
 pub(crate) fn header_node(container: Container, len: usize, count: usize) -> Node
-    ensures { (start : ℕ) → result ≡ cut_of start (header_of container len count) }
+    ensures { result ≡ cut_of (textless (header_of container len count)) }
 {
     match container {
         Container::Array => span_of(8, len, count),
@@ -44,20 +44,12 @@ pub(crate) fn header_node(container: Container, len: usize, count: usize) -> Nod
     }
 }
 
-// Whether a value is an integer of 128 bits, which has a text.
-#[inline(always)]
-pub(crate) fn is_wide(value: &StaticNode) -> bool
-    ensures { result ≡ is_wide value.now }
-{
-    matches!(value, StaticNode::I128(_) | StaticNode::U128(_))
-}
-
-// The node of any other value. Its kind is known where this is inlined, so the other cases
+// The node of a value without a text. Its kind is known where this is inlined, so the other cases
 // disappear.
 #[inline(always)]
 pub(crate) fn static_of(value: StaticNode) -> Node
-    ensures { is_wide value ≡ false
-        → (start : ℕ) → result ≡ cut_of start (static_item value) }
+    requires { is_long value ≡ false }
+    ensures { result ≡ cut_of (textless (static_item value)) }
 {
     let (kind, value) = match value {
         StaticNode::Bool(value) => (1, value as u64),
@@ -72,15 +64,13 @@ pub(crate) fn static_of(value: StaticNode) -> Node
     }
 }
 
-// The kind and the literal of an integer of 128 bits.
-pub(crate) fn literal_of(value: StaticNode, digits: &mut Buffer) -> (u32, &str)
-    ensures { is_wide value ≡ true → (text_of (static_item value) ≡ result.1.now)
-        × ((start : ℕ) → node_of start (static_item value)
-        ≡ span result.0 (length result.1.now) start) }
+// The kind of an integer of 128 bits.
+pub(crate) fn long_kind(value: StaticNode) -> u32
+    requires { is_long value ≡ true }
+    ensures { (at len : ℕ) → static_node at len value ≡ span result len at }
 {
     match value {
-        StaticNode::I128(number) => (4, digits.format(number)),
-        StaticNode::U128(number) => (5, digits.format(number)),
-        _ => (0, ""),
+        StaticNode::I128(_) => 4,
+        _ => 5,
     }
 }

@@ -1,4 +1,5 @@
 pub mod Stacks
+pub mod Visits
 pub mod Segments
 pub mod Heights
 pub mod Rooms

@@ -1,12 +1,12 @@
 -- What is left of what a query selects, to frames that are open.
-use Rattle.std.specs.Prelude.{ℕ, zero, suc, ◌+◌, List, [], ◌∷◌, ◌++◌, drop, filter, Option, Some, None}
+use Rattle.std.specs.Prelude.{ℕ, zero, suc, ◌+◌, List, [], ◌∷◌, ◌++◌, drop, filter, cond, Option, Some, None}
 use denote.Ref.{Bor}
 use Rattle.std.specs.List.{flat_map, sum_by}
 use Rattle.simd_json_parts.specs.Document.{Document}
 use Rattle.simd_json.specs.Viewed.{doc}
 use Rattle.simd_json_path.specs.Filters.{holds}
 use Rattle.simd_json_path.specs.Paths.{followed, selected_by_all}
-use Rattle.simd_json_path.specs.Room.{selected_in, effort}
+use Rattle.simd_json_path.specs.Room.{selected_in, effort, entered}
 use Rattle.simd_json_path.specs.Sliced.{children_left}
 use Rattle.simd_json_query.specs.declared.filter.Test.{Test}
 use Rattle.simd_json_path.specs.declared.frame.Frame.{Frame}
@@ -26,15 +26,22 @@ opened_left root o = picked_left root o.picked ++ selected_by_all root o.selecto
 
 -- ---- of a frame, where so many values may be open beneath its own
 
+-- of what its selectors select, and of the children
+abbrev pub here_left : Document → Frame → List Document
+here_left root f = cond f.is_below [] (opened_left root f.opened)
+
+abbrev pub below_left : Frame → List Document
+below_left f = cond f.is_below (children_left f.opened.picked.children) (entered f.is_descendant (doc f.opened.value))
+
 abbrev pub frame_left : Document → ℕ → Frame → List (Option Document)
 frame_left root room f =
-    flat_map (selected_in root room (drop 1 f.segments.now)) (followed f.steps.now (opened_left root f.opened))
-    ++ flat_map (selected_in root room f.segments.now) (children_left f.below)
+    flat_map (selected_in root room (drop 1 f.segments.now)) (followed f.steps.now (here_left root f))
+    ++ flat_map (selected_in root room f.segments.now) (below_left f)
 
 abbrev pub frame_effort : Document → ℕ → Frame → ℕ
 frame_effort root room f =
-    sum_by (effort root room (drop 1 f.segments.now)) (followed f.steps.now (opened_left root f.opened))
-    + sum_by (effort root room f.segments.now) (children_left f.below)
+    sum_by (effort root room (drop 1 f.segments.now)) (followed f.steps.now (here_left root f))
+    + sum_by (effort root room f.segments.now) (below_left f)
 
 -- ---- of frames, each inside the one before it
 

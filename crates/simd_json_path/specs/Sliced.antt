@@ -1,6 +1,5 @@
 -- What is left of children.
-use Rattle.std.specs.Prelude.{List, drop, take, reverse, option_map}
-use Rattle.std.specs.Option.{option_to_list}
+use Rattle.std.specs.Prelude.{List, [], ◌∷◌, drop, take, reverse}
 use Rattle.simd_json_parts.specs.Document.{Document, elements}
 use Rattle.simd_json.specs.Iterated.{elements_left, values_left}
 use Rattle.simd_json.specs.Viewed.{doc, docs}
@@ -17,7 +16,8 @@ abbrev pub back_left : Back → List Document
 back_left b = every b.gap 0 (reverse (drop b.floor (take b.end (elements (docs b.array)))))
 
 abbrev pub children_left : Children → List Document
-children_left (children.One value) = option_to_list (option_map doc value)
+children_left children.Nothing = []
+children_left (children.One value) = doc value ∷ []
 children_left (children.Elements it) = elements_left it
 children_left (children.Values it) = values_left it
 children_left (children.Every it) = every_left it

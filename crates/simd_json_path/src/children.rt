@@ -11,7 +11,8 @@ use simd_json_query::Slice;
 // What is left of some children of a value.
 #[derive(Clone, Copy, Debug)]
 pub(crate) enum Children<'tape, 'input> {
-    One(Option<Value<'tape, 'input>>),
+    Nothing,
+    One(Value<'tape, 'input>),
     Elements(array::Iter<'tape, 'input>),
     Values(object::Values<'tape, 'input>),
     Every(Every<'tape, 'input>),
@@ -19,13 +20,27 @@ pub(crate) enum Children<'tape, 'input> {
 }
 
 impl<'tape, 'input> Children<'tape, 'input> {
-    ghost use Rattle.std.specs.Prelude.{◌≡◌};
+    ghost use Rattle.std.specs.Iterator.{YieldsFirstBy};
+    ghost use Rattle.std.specs.Option.{option_to_list};
+    ghost use Rattle.std.specs.Prelude.{◌≡◌, option_map};
     ghost use Rattle.simd_json.specs.Beneath.{children};
     ghost use Rattle.simd_json.specs.Viewed.{doc};
     ghost use Rattle.simd_json_path.specs.Slices.{sliced};
     ghost use Rattle.simd_json_path.specs.Sliced.{children_left};
 
+    // One, or none.
+    #[inline(always)]
+    pub(crate) fn of_option(value: Option<Value<'tape, 'input>>) -> Self
+        ensures { children_left result ≡ option_to_list (option_map doc value.entry) }
+    {
+        match value {
+            Some(value) => Children::One(value),
+            None => Children::Nothing,
+        }
+    }
+
     // All of them.
+    #[inline(always)]
     pub(crate) fn of(value: Value<'tape, 'input>) -> Self
         ensures { children_left result ≡ children (doc value.entry) }
     {
@@ -35,15 +50,16 @@ impl<'tape, 'input> Children<'tape, 'input> {
         if let Some(object) = value.as_object() {
             return Children::Values(object.values());
         }
-        Children::One(None)
+        Children::Nothing
     }
 
     // Those that a slice selects.
+    #[inline(always)]
     pub(crate) fn in_slice(slice: &Slice, value: Value<'tape, 'input>) -> Self
         ensures { children_left result ≡ sliced slice.now (doc value.entry) }
     {
         let Some(array) = value.as_array() else {
-            return Children::One(None);
+            return Children::Nothing;
         };
         if slice.step > 0 {
             return Children::Every(Every::of(slice, array, slice.step as usize - 1));
@@ -52,7 +68,26 @@ impl<'tape, 'input> Children<'tape, 'input> {
             let gap = slice.step.unsigned_abs() as usize - 1;
             return Children::Back(Back::of(slice, array, gap));
         }
-        Children::One(None)
+        Children::Nothing
+    }
+
+    // The next one of those that are neither all elements nor all values.
+    #[inline(never)]
+    fn next_other(&mut self) -> Option<Value<'tape, 'input>>
+        ensures { YieldsFirstBy doc children_left self.old result self.new }
+    {
+        match self {
+            Children::Nothing => None,
+            Children::One(value) => {
+                let only = *value;
+                *self = Children::Nothing;
+                Some(only)
+            }
+            Children::Elements(elements) => elements.next(),
+            Children::Values(values) => values.next(),
+            Children::Every(elements) => elements.next(),
+            Children::Back(elements) => elements.next(),
+        }
     }
 }
 
@@ -67,14 +102,16 @@ impl<'tape, 'input> Iterator for Children<'tape, 'input> {
 
     ghost remaining = { item_count children_left };
 
+    #[inline(always)]
     fn next(&mut self) -> Option<Value<'tape, 'input>> {
-        match self {
-            Children::One(value) => value.take(),
-            Children::Elements(elements) => elements.next(),
-            Children::Values(values) => values.next(),
-            Children::Every(elements) => elements.next(),
-            Children::Back(elements) => elements.next(),
+        if let Children::Elements(elements) = self {
+            return elements.next();
         }
+        if let Children::Values(values) = self {
+            return values.next();
+        }
+        // Of a value that a call wrote, a copy is returned: else all values would lie in memory.
+        Some(self.next_other()?)
     }
 }
 

@@ -1,6 +1,7 @@
 //! Filters (RFC 9535, section 2.3.5): tests of a node.
 ghost use Rattle.std.specs.Prelude.{◌≡◌, option_map};
 ghost use Rattle.simd_json.specs.Viewed.{doc};
+ghost use Rattle.simd_json_parts.specs.Views.{get};
 ghost use Rattle.simd_json_path.specs.Filters.{at_step, at_steps, holds, selected_node};
 
 use crate::children::at_index;
@@ -89,7 +90,26 @@ pub(crate) fn selected_node<'tape, 'input>(
 }
 
 // The node to which steps lead.
+#[inline(always)]
 pub(crate) fn follow<'tape, 'input>(
+    steps: &[Step<'_>],
+    node: Value<'tape, 'input>,
+) -> Option<Value<'tape, 'input>>
+    ensures { option_map doc result ≡ at_steps steps.now (doc node.entry) }
+{
+    let Some((first, others)) = steps.split_first() else {
+        return Some(node);
+    };
+    let reached = take(first, node)?;
+    if others.is_empty() {
+        return Some(reached);
+    }
+    Some(follow_others(others, reached)?)
+}
+
+// The same, not inlined.
+#[inline(never)]
+fn follow_others<'tape, 'input>(
     steps: &[Step<'_>],
     node: Value<'tape, 'input>,
 ) -> Option<Value<'tape, 'input>>
@@ -102,11 +122,27 @@ pub(crate) fn follow<'tape, 'input>(
     Some(reached)
 }
 
+#[inline(always)]
 fn take<'tape, 'input>(step: &Step<'_>, node: Value<'tape, 'input>) -> Option<Value<'tape, 'input>>
     ensures { option_map doc result ≡ at_step step.now (doc node.entry) }
 {
     match step {
-        Step::Name(name) => node.get(name),
-        Step::Index(index) => at_index(node, *index),
+        Step::Name(name) => member(node, name),
+        Step::Index(index) => Some(at_index(node, *index)?),
     }
+}
+
+// The value with a name. `find` is not inlined for long names, whose loop is set up at each call.
+#[inline(always)]
+pub(crate) fn member<'tape, 'input>(
+    node: Value<'tape, 'input>,
+    name: &str,
+) -> Option<Value<'tape, 'input>>
+    ensures { option_map doc result ≡ get name.now (doc node.entry) }
+{
+    let object = node.as_object()?;
+    if name.len() > 16 {
+        return Some(object.get(name)?);
+    }
+    object.find(name)
 }

@@ -1,9 +1,9 @@
 //! A value at which a segment goes on.
 ghost use Rattle.std.specs.Prelude.{◌≡◌, ◌<◌, length};
 
-use crate::children::Children;
 use crate::followed::next_followed;
 use crate::opened::Opened;
+use crate::picked::Picked;
 use simd_json::tape::Value;
 use simd_json_query::{Segment, Step};
 
@@ -18,22 +18,22 @@ static NOTHING: [Segment<'static>; 1] = [Segment {
 #[derive(Clone, Copy)]
 pub struct Frame<'path, 'tape, 'input> {
     segments: &'path [Segment<'path>],
-    // Of what the first segment's selectors select of the value.
-    opened: Opened<'path, 'tape, 'input>,
-    // Where the first segment goes on from each of these.
+    // Where the first segment goes on from what its selectors select.
     steps: &'path [Step<'path>],
-    // Of the children that the first segment visits too.
-    below: Children<'tape, 'input>,
+    // What is left of that; of the children that it visits too, once it is at these.
+    opened: Opened<'path, 'tape, 'input>,
+    is_descendant: bool,
+    is_below: bool,
     ghost some: { 0 < length segments.now },
 }
 
 impl<'path, 'tape, 'input> Frame<'path, 'tape, 'input> {
     ghost use Rattle.std.specs.Prelude.{◌≡◌, ◌<◌, ◌+◌, ◌∷◌, ◌++◌, [], suc, ℕ, length, MatchOption};
+    ghost use Rattle.std.specs.Prelude.{true};
     ghost use Rattle.simd_json.specs.Viewed.{doc};
     ghost use Rattle.simd_json_parts.specs.Document.{Document};
     ghost use Rattle.simd_json_path.specs.Frames.{frame_left, frame_effort};
-    ghost use Rattle.simd_json_path.specs.Room.{selected_in, effort, entered};
-    ghost use Rattle.simd_json_path.specs.Sliced.{children_left};
+    ghost use Rattle.simd_json_path.specs.Room.{selected_in, effort};
 
     /// A frame for [`Path::select`](crate::Path::select), at which nothing is left.
     pub fn closed() -> Self
@@ -41,9 +41,10 @@ impl<'path, 'tape, 'input> Frame<'path, 'tape, 'input> {
     {
         Frame {
             segments: &NOTHING,
-            opened: Opened::new(&[], Value::null()),
             steps: &[],
-            below: Children::One(None),
+            opened: Opened::new(&[], Value::null()),
+            is_descendant: false,
+            is_below: false,
         }
     }
 
@@ -51,19 +52,36 @@ impl<'path, 'tape, 'input> Frame<'path, 'tape, 'input> {
         requires { 0 < length segments.now }
         ensures left { (root : Document) (room : ℕ) → frame_left root room result
             ≡ selected_in root (suc room) segments.now (doc value.entry) }
-        ensures effort { (root : Document) (room : ℕ) → 2 + frame_effort root room result
+    {
+        let mut frame = Frame::closed();
+        frame.enter(segments, value);
+        frame
+    }
+
+    // Opens a value. What is not needed for its children stays, where nothing else is left.
+    #[inline(always)]
+    pub(crate) fn enter(&mut self, segments: &'path [Segment<'path>], value: Value<'tape, 'input>)
+        requires { 0 < length segments.now }
+        ensures left { (root : Document) (room : ℕ) → frame_left root room self.new
+            ≡ selected_in root (suc room) segments.now (doc value.entry) }
+        ensures effort { (root : Document) (room : ℕ) → 2 + frame_effort root room self.new
             ≡ effort root (suc room) segments.now (doc value.entry) }
     {
-        let first = segments[0];
-        Frame {
-            segments,
-            opened: Opened::new(first.selectors, value),
-            steps: first.steps,
-            below: Frame::below(&first, value),
+        let first = &segments[0];
+        let opened = Opened::new(first.selectors, value);
+        self.segments = segments;
+        self.is_below = first.is_descendant && opened.is_done();
+        if self.is_below {
+            self.opened.picked = Picked::all(value);
+            return;
         }
+        self.steps = first.steps;
+        self.opened = opened;
+        self.is_descendant = first.is_descendant;
     }
 
     // The next value, and the segments that go on from it, in a query that is applied to `root`.
+    #[inline(always)]
     pub(crate) fn next(
         &mut self,
         root: Value<'tape, 'input>,
@@ -79,20 +97,34 @@ impl<'path, 'tape, 'input> Frame<'path, 'tape, 'input> {
             ≡ effort (doc root.entry) room r.0.now (doc r.1)
             + frame_effort (doc root.entry) room self.new) }
     {
+        if self.is_below {
+            return self.next_below();
+        }
         if let Some(value) = next_followed(&mut self.opened, self.steps, root) {
             return Some((&self.segments[1..], value));
         }
-        let value = self.below.next()?;
-        Some((self.segments, value))
+        if !self.is_descendant {
+            return None;
+        }
+        self.is_below = true;
+        self.opened.picked = Picked::all(self.opened.value);
+        self.next_below()
     }
 
-    // The children that a segment visits beside the value.
-    fn below(segment: &Segment<'_>, value: Value<'tape, 'input>) -> Children<'tape, 'input>
-        ensures { children_left result ≡ entered segment.now.is_descendant (doc value.entry) }
+    // The next one of the children that the first segment visits too.
+    #[inline(always)]
+    fn next_below(&mut self) -> Option<(&'path [Segment<'path>], Value<'tape, 'input>)>
+        requires { self.old.is_below ≡ true }
+        ensures left { (root : Document) (room : ℕ) → MatchOption result
+            (frame_left root room self.old ≡ [])
+            (λ r. frame_left root room self.old
+            ≡ selected_in root room r.0.now (doc r.1) ++ frame_left root room self.new) }
+        ensures effort { (root : Document) (room : ℕ) → MatchOption result
+            (frame_left root room self.old ≡ [])
+            (λ r. frame_effort root room self.old
+            ≡ effort root room r.0.now (doc r.1) + frame_effort root room self.new) }
     {
-        if segment.is_descendant {
-            return Children::of(value);
-        }
-        Children::One(None)
+        let value = self.opened.picked.children.next()?;
+        Some((self.segments, value))
     }
 }

@@ -1,18 +1,21 @@
 //! The values at which segments go on, each inside the one before it.
 ghost use Rattle.std.specs.Prelude.{◌≡◌, ◌+◌, ◌<◌, ◌≤◌, ◌∷◌, ◌++◌, [], suc, ℕ, length, take};
-ghost use Rattle.std.specs.Prelude.{MatchOption};
+ghost use Rattle.std.specs.Prelude.{MatchOption, Some, map};
 ghost use Rattle.simd_json.specs.Viewed.{doc};
 ghost use Rattle.simd_json_parts.specs.Document.{Document};
 ghost use Rattle.simd_json_path.specs.Frames.{frames_effort, frames_left};
+ghost use Rattle.simd_json_path.specs.Leaves.{leaf_left};
 ghost use Rattle.simd_json_path.specs.Left.{item_of};
 ghost use Rattle.simd_json_path.specs.Room.{effort, is_container, selected_in};
 
 use crate::frame::Frame;
+use crate::leaf::Leaf;
 use crate::selected::TooFewFrames;
 use simd_json::tape::Value;
 use simd_json_query::Segment;
 
 // The next value of the frame at an index, and the segments that go on from it.
+#[inline(always)]
 fn step<'path, 'tape, 'input>(
     frames: &mut [Frame<'path, 'tape, 'input>],
     last: usize,
@@ -36,6 +39,7 @@ fn step<'path, 'tape, 'input>(
 }
 
 // Opens a value, inside those that are open.
+#[inline(always)]
 fn enter<'path, 'tape, 'input>(
     frames: &mut [Frame<'path, 'tape, 'input>],
     at: usize,
@@ -53,23 +57,28 @@ fn enter<'path, 'tape, 'input>(
         ≡ effort root (suc room) segments.now (doc value.entry)
         + frames_effort root (at + suc room) (take at frames.old) }
 {
-    frames[at] = Frame::new(segments, value);
+    frames[at].enter(segments, value);
 }
 
-// The next item, where the first `opened` frames are open, in a query that is applied to `root`.
+// The next item, where the first `opened` frames are open, in a query that is applied to `root`,
+// and the leaf, which none is left of, may be filled with those after it.
+#[inline(always)]
 pub(crate) fn advance<'path, 'tape, 'input>(
     frames: &mut [Frame<'path, 'tape, 'input>],
     opened: &mut usize,
+    leaf: &mut Leaf<'path, 'tape, 'input>,
     root: Value<'tape, 'input>,
 ) -> Option<Result<Value<'tape, 'input>, TooFewFrames>>
-    requires { opened.old ≤ length frames.old }
+    requires within { opened.old ≤ length frames.old }
+    requires none { leaf_left leaf.old ≡ [] }
     ensures within { opened.new ≤ length frames.new }
     ensures left { MatchOption result
         ((frames_left (doc root.entry) (length frames.old) (take opened.old frames.old) ≡ [])
-        × (frames_left (doc root.entry) (length frames.new) (take opened.new frames.new) ≡ []))
+        × (map Some (leaf_left leaf.new)
+        ++ frames_left (doc root.entry) (length frames.new) (take opened.new frames.new) ≡ []))
         (λ r. frames_left (doc root.entry) (length frames.old) (take opened.old frames.old)
-        ≡ item_of r
-        ∷ frames_left (doc root.entry) (length frames.new) (take opened.new frames.new)) }
+        ≡ item_of r ∷ (map Some (leaf_left leaf.new)
+        ++ frames_left (doc root.entry) (length frames.new) (take opened.new frames.new))) }
 {
     'frames: while *opened > 0 {
         let last = *opened - 1;
@@ -86,6 +95,13 @@ pub(crate) fn advance<'path, 'tape, 'input>(
         if *opened == frames.len() {
             return Some(Err(TooFewFrames));
         }
+        if let Some(found) = Leaf::of(segments, value) {
+            *leaf = found;
+            if let Some(value) = leaf.next() {
+                return Some(Ok(value));
+            }
+            continue;
+        }
         enter(frames, *opened, segments, value);
         *opened += 1;
     }
@@ -93,6 +109,7 @@ pub(crate) fn advance<'path, 'tape, 'input>(
 }
 
 // Whether a value may have children.
+#[inline(always)]
 pub(crate) fn is_container(value: Value<'_, '_>) -> bool
     ensures { result ≡ is_container (doc value.entry) }
 {

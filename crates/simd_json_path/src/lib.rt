@@ -67,6 +67,7 @@ mod followed;
 mod frame;
 mod frames;
 pub mod laws;
+mod leaf;
 mod opened;
 mod operand;
 mod path;

@@ -1,6 +1,6 @@
 //! What one selector selects of one value.
 use crate::children::{Children, at_index};
-use crate::filter::holds;
+use crate::filter::{holds, member};
 use simd_json::tape::Value;
 use simd_json_query::{Selector, Test};
 
@@ -12,13 +12,16 @@ pub(crate) struct Picked<'path, 'tape, 'input> {
 }
 
 impl<'path, 'tape, 'input> Picked<'path, 'tape, 'input> {
-    ghost use Rattle.std.specs.Prelude.{◌≡◌};
+    ghost use Rattle.std.specs.Prelude.{◌≡◌, [], true};
     ghost use Rattle.std.specs.Iterator.{YieldsFirstBy};
+    ghost use Rattle.simd_json.specs.Beneath.{children};
     ghost use Rattle.simd_json.specs.Viewed.{doc};
     ghost use Rattle.simd_json_parts.specs.Document.{Document};
     ghost use Rattle.simd_json_path.specs.Frames.{picked_left};
+    ghost use Rattle.simd_json_path.specs.Sliced.{children_left};
     ghost use Rattle.simd_json_path.specs.Paths.{selected_by};
 
+    #[inline(always)]
     pub(crate) fn new(selector: &Selector<'path>, value: Value<'tape, 'input>) -> Self
         ensures { (root : Document)
             → picked_left root result ≡ selected_by root selector.now (doc value.entry) }
@@ -30,8 +33,8 @@ impl<'path, 'tape, 'input> Picked<'path, 'tape, 'input> {
             };
         }
         let children = match selector {
-            Selector::Name(name) => Children::One(value.get(name)),
-            Selector::Index(index) => Children::One(at_index(value, *index)),
+            Selector::Name(name) => Children::of_option(member(value, name)),
+            Selector::Index(index) => Children::of_option(at_index(value, *index)),
             Selector::Slice(slice) => Children::in_slice(slice, value),
             _ => Children::of(value),
         };
@@ -41,7 +44,27 @@ impl<'path, 'tape, 'input> Picked<'path, 'tape, 'input> {
         }
     }
 
+    // All children.
+    #[inline(always)]
+    pub(crate) fn all(value: Value<'tape, 'input>) -> Self
+        ensures children { children_left result.children ≡ children (doc value.entry) }
+    {
+        Picked {
+            children: Children::of(value),
+            test: None,
+        }
+    }
+
+    // Whether none are left, as far as it is seen at once.
+    #[inline(always)]
+    pub(crate) fn is_done(&self) -> bool
+        ensures { result ≡ true → (root : Document) → picked_left root self.now ≡ [] }
+    {
+        matches!(self.children, Children::Nothing)
+    }
+
     // The next one, in a query that is applied to `root`.
+    #[inline(always)]
     pub(crate) fn next(&mut self, root: Value<'tape, 'input>) -> Option<Value<'tape, 'input>>
         ensures { YieldsFirstBy doc (picked_left (doc root.entry)) self.old result self.new }
     {

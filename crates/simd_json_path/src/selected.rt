@@ -3,6 +3,7 @@ ghost use Rattle.std.specs.Prelude.{◌≡◌, ◌≤◌, length};
 
 use crate::frame::Frame;
 use crate::frames::{advance, is_container};
+use crate::leaf::Leaf;
 use simd_json::tape::Value;
 use simd_json_query::Segment;
 use std::fmt;
@@ -34,6 +35,8 @@ pub struct Selected<'frames, 'path, 'tape, 'input> {
     // The first `opened` are open, each inside the one before it.
     frames: &'frames mut [Frame<'path, 'tape, 'input>],
     opened: usize,
+    // What comes before what is left of the frames.
+    leaf: Leaf<'path, 'tape, 'input>,
     // The only item, where no frame was opened.
     single: Option<Result<Value<'tape, 'input>, TooFewFrames>>,
     ghost within: { opened ≤ length frames.now },
@@ -41,8 +44,10 @@ pub struct Selected<'frames, 'path, 'tape, 'input> {
 
 impl<'frames, 'path, 'tape, 'input> Selected<'frames, 'path, 'tape, 'input> {
     ghost use Rattle.std.specs.Prelude.{◌≡◌, [], length};
+    ghost use Rattle.std.specs.Iterator.{YieldsFirstBy};
     ghost use Rattle.simd_json.specs.Viewed.{doc};
-    ghost use Rattle.simd_json_path.specs.Left.{selected_left};
+    ghost use Rattle.simd_json_path.specs.Leaves.{leaf_left};
+    ghost use Rattle.simd_json_path.specs.Left.{item_of, selected_left};
     ghost use Rattle.simd_json_path.specs.Room.{selected_in};
 
     // What segments select of a value, in a query that is applied to `root`.
@@ -56,11 +61,13 @@ impl<'frames, 'path, 'tape, 'input> Selected<'frames, 'path, 'tape, 'input> {
             ≡ selected_in (doc root.entry) (length frames.entry.now) segments.now
             (doc start.entry) }
     {
+        let leaf: Leaf<'path, 'tape, 'input> = Leaf::nothing();
         if segments.is_empty() {
             return Selected {
                 root,
                 frames,
                 opened: 0,
+                leaf,
                 single: Some(Ok(start)),
             };
         }
@@ -72,7 +79,17 @@ impl<'frames, 'path, 'tape, 'input> Selected<'frames, 'path, 'tape, 'input> {
                 root,
                 frames,
                 opened: 0,
+                leaf,
                 single: Some(Err(TooFewFrames)),
+            };
+        }
+        if let Some(leaf) = Leaf::of(segments, start) {
+            return Selected {
+                root,
+                frames,
+                opened: 0,
+                leaf,
+                single: None,
             };
         }
         frames[0] = Frame::new(segments, start);
@@ -80,8 +97,22 @@ impl<'frames, 'path, 'tape, 'input> Selected<'frames, 'path, 'tape, 'input> {
             root,
             frames,
             opened: 1,
+            leaf,
             single: None,
         }
+    }
+
+    // The next item, where none is left of the leaf.
+    #[inline(never)]
+    fn next_beneath(&mut self) -> Option<Result<Value<'tape, 'input>, TooFewFrames>>
+        requires { leaf_left self.old.leaf ≡ [] }
+        ensures { YieldsFirstBy item_of selected_left self.old result self.new }
+    {
+        let found = advance(self.frames, &mut self.opened, &mut self.leaf, self.root);
+        if found.is_some() {
+            return found;
+        }
+        self.single.take()
     }
 
     // Nothing.
@@ -91,10 +122,12 @@ impl<'frames, 'path, 'tape, 'input> Selected<'frames, 'path, 'tape, 'input> {
     ) -> Self
         ensures { selected_left result ≡ [] }
     {
+        let leaf: Leaf<'path, 'tape, 'input> = Leaf::nothing();
         Selected {
             root,
             frames,
             opened: 0,
+            leaf,
             single: None,
         }
     }
@@ -110,13 +143,12 @@ impl<'frames, 'path, 'tape, 'input> Iterator for Selected<'frames, 'path, 'tape,
 
     ghost remaining = { item_count selected_left };
 
+    #[inline(always)]
     fn next(&mut self) -> Option<Result<Value<'tape, 'input>, TooFewFrames>> {
-        let mut opened = self.opened;
-        let found = advance(self.frames, &mut opened, self.root);
-        self.opened = opened;
-        if found.is_some() {
-            return found;
+        if let Some(value) = self.leaf.next() {
+            return Some(Ok(value));
         }
-        self.single.take()
+        let item = self.next_beneath()?;
+        Some(item)
     }
 }

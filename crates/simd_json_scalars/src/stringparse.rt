@@ -158,7 +158,7 @@ fn unescape(unread: &mut [u8], from: usize) -> Result<Ends, BadEscape>
 // Runs of bytes between escapes: their ends are found, and they are moved down.
 
 // Moves the bytes up to the next quote or backslash down, 32 at a time, while it is looked for.
-#[inline]
+#[inline(always)]
 fn move_plain(bytes: &mut [u8], from: usize, to: usize) -> Ends
     requires goes_on { IsOpen bytes.old from }
     requires order { to ≤ from }

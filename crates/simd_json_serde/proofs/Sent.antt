@@ -78,19 +78,6 @@ pub marked : {n : ℕ} (w : Draft n) (at to : List Part → State) (e : Event) (
     → ((parts : List Part) → HasParts w parts → TakesEvent (at parts) e (to parts)) → ∥ IsSent w at log ∥₁ → ∥ IsSent w to next ∥₁
 marked w at to e log next is takes all = subst (λ l. ∥ IsSent w to l ∥₁) (sym is) (∥∥₁_map all (mark w at to e log takes))
 
--- the events are no longer known
-lost-step : {n : ℕ} (step : List Part → List Part) (old new : Draft n) (at to : List Part → State) (log : Log)
-    → Steps step old new → IsSent old at log → IsSent new to None
-lost-step step old new at to log steps (inl failed) = absurd (steps.live failed)
-lost-step step old new at to log steps (inr h) = inr (step h.0, steps.written h.0 h.1, tt)
-
-pub lost : {n : ℕ} {E : Type 0} (r : Result Unit E) (step : List Part → List Part) (old new : Draft n) (at to : List Part → State)
-    (log next : Log) → next ≡ None → OnOk r (Steps step old new) → OnErr r (new.place ≡ Failed)
-    → ∥ IsSent old at log ∥₁ → ∥ IsSent new to next ∥₁
-lost (Ok u) step old new at to log next is steps failed all =
-    subst (λ l. ∥ IsSent new to l ∥₁) (sym is) (∥∥₁_map all (lost-step step old new at to log steps))
-lost (Err x) step old new at to log next is steps failed all = ∣ inl failed ∣₁
-
 -- ---- by whether the next value is flattened
 
 pub unit-flat : (s t : State) → s.flattens ≡ true → t ≡ record s { flattens = false } → TakesEvent s nothing t

@@ -1,5 +1,5 @@
 -- What the next node says of a value, as a function: of what is no key, a step returns exactly that.
-use Rattle.std.specs.Prelude.{◌≡◌, ℕ, ◌+◌, ◌-◌, ◌^◌, ◌<◌, ◌≤◌, ◌&&◌, ℤ, pos, neg_ℤ, int_le, int_lt, List, slice_get, nat_lt, if◌then◌else◌}
+use Rattle.std.specs.Prelude.{◌≡◌, ◌⊎◌, ℕ, ◌+◌, ◌-◌, ◌^◌, ◌<◌, ◌≤◌, ◌&&◌, ℤ, pos, neg_ℤ, int_le, int_lt, List, slice_get, length, nat_lt, if◌then◌else◌}
 use Rattle.std.specs.Prelude.{[], Bool, true, false, Option, Some, None, option_and_then, decimal}
 use Rattle.std.specs.Fmt.{signed_decimal}
 use Rattle.std.specs.Float.{Float, Format, float_is_finite}
@@ -16,7 +16,7 @@ use Rattle.simd_json_parts.specs.declared.node.StaticNode.{StaticNode}
 use Rattle.simd_json_parts.specs.declared.node.StaticNode.TheVariants as fixed
 use Rattle.serde.specs.declared.format.Kind.{Kind}
 use Rattle.serde.specs.declared.format.Kind.TheVariants as kinds
-use Rattle.simd_json_serde.specs.Steps.{Place, nodes_beneath}
+use Rattle.simd_json_serde.specs.Steps.{Place, BeginsBytes, nodes_beneath}
 
 -- the next node within the innermost container
 abbrev pub node_ahead : Place → Option Node
@@ -107,6 +107,10 @@ CanEnter count_in p = (count : ℕ) × (ahead count_in p ≡ Some count) × (p.a
 -- the same of any value
 abbrev pub CanSkip : Place → Type 0
 CanSkip p = (count : ℕ) × (ahead (λ item. Some (nodes_beneath item)) p ≡ Some count) × (p.at + 1 + count < 2 ^ 64)
+
+-- bytes are next, as a string or as an array whose nodes can be numbered
+abbrev pub AreBytesAhead : Place → List ℕ → Type 0
+AreBytesAhead p bs = (ahead text p ≡ Some bs) ⊎ (BeginsBytes p bs × (p.at + 1 + length bs < 2 ^ 64))
 
 -- no container is open, and nothing is left
 abbrev pub NothingIsLeft : Place → Type 0

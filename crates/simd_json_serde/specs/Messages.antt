@@ -1,12 +1,17 @@
--- What is printed of a mismatch.
-use Rattle.std.specs.Prelude.{ℕ, List, [], ◌∷◌, ◌++◌, codes, string_bytes}
+-- What is printed of an error.
+use Rattle.std.specs.Prelude.{ℕ, List, [], ◌∷◌, ◌++◌, Option, Some, None, codes, string_bytes}
 use Rattle.std.specs.Fmt.InlineText.{inline_text}
+use Rattle.simd_json_parts.specs.ErrorKinds.{error_text}
 use Rattle.simd_json_serde.specs.Words.{found_words, wanted_words}
+use Rattle.simd_json_serde.specs.declared.error.Error.{Error}
+use Rattle.simd_json_serde.specs.declared.error.Error.TheVariants as errors
 use Rattle.simd_json_serde.specs.declared.error.Mismatch.{Mismatch}
 use Rattle.simd_json_serde.specs.declared.error.MismatchKind.{MismatchKind}
 use Rattle.simd_json_serde.specs.declared.error.MismatchKind.TheVariants.{InvalidType, InvalidValue, InvalidLength, MissingValue}
 use Rattle.simd_json_serde.specs.declared.error.MismatchKind.TheVariants.{MissingField, DuplicateField, UnknownField, UnknownVariant}
 use Rattle.simd_json_serde.specs.declared.error.MismatchKind.TheVariants.{Custom, OutOfMemory}
+use Rattle.simd_json_serde.specs.declared.write_error.WriteError.{WriteError}
+use Rattle.simd_json_serde.specs.declared.write_error.WriteError.TheVariants as writes
 
 abbrev pub path_of : Mismatch → List ℕ
 path_of m = string_bytes m.path
@@ -33,3 +38,16 @@ lead_text (x ∷ path) = (x ∷ path) ++ codes ": "
 
 abbrev pub printed_mismatch : Mismatch → List ℕ
 printed_mismatch m = lead_text (path_of m) ++ mismatch_reason m.fault.kind (given_name m)
+
+abbrev pub printed_error : Error → List ℕ
+printed_error (errors.Parse e) = error_text e
+printed_error (errors.Mismatch m) = printed_mismatch m
+
+-- nothing is known of what is printed of a writer's error
+abbrev pub printed_write_error : WriteError → Option (List ℕ)
+printed_write_error writes.NotFinite = Some (codes "a float is not finite")
+printed_write_error writes.KeyKind = Some (codes "a key is no string")
+printed_write_error writes.Misplaced = Some (codes "a value is out of place")
+printed_write_error (writes.Custom message) = Some (inline_text message)
+printed_write_error writes.OutOfMemory = Some (codes "out of memory")
+printed_write_error (writes.Io e) = None

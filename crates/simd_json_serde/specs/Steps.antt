@@ -1,5 +1,5 @@
 -- The nodes that each step of a typed read takes, and what it returns for them.
-use Rattle.std.specs.Prelude.{◌≡◌, ℕ, ◌+◌, ◌<◌, ◌≤◌, ◌⊎◌, ℤ, pos, List, [], ◌∷◌, ◌++◌}
+use Rattle.std.specs.Prelude.{◌≡◌, ℕ, ◌+◌, ◌^◌, ◌<◌, ◌≤◌, ◌⊎◌, ℤ, pos, List, [], ◌∷◌, ◌++◌, length, get_or}
 use Rattle.std.specs.Prelude.{map, drop, Bool, true, false, Some, slice_get, codes, decimal, encode_utf8, IsTrue}
 use Rattle.std.specs.Fmt.{signed_decimal}
 use Rattle.std.specs.Float.{Float, Format, binary32, binary64, float_is_finite}
@@ -97,6 +97,21 @@ Opens old header new =
     (n : Node) × (len count : ℕ) × (old.at < old.end) × (slice_get old.nodes old.at ≡ Some n) × (item_of n ≡ header len count)
     × (new ≡ record { nodes = old.nodes; at = old.at + 1; end = old.at + 1 + count; outer = old.outer ++ old.end ∷ []; at_key = false })
 
+-- the nodes from an index on are the integers that these bytes are
+abbrev pub AreBytesAt : List Node → ℕ → List ℕ → Type 0
+AreBytesAt nodes at bs =
+    (k : ℕ) → k < length bs
+    → (get_or bs k 0 < 2 ^ 8) × ((n : Node) × (slice_get nodes (at + k) ≡ Some n) × IsUnsigned (get_or bs k 0) false (item_of n))
+
+-- the next node begins an array of these bytes
+abbrev pub BeginsBytes : Place → List ℕ → Type 0
+BeginsBytes p bs =
+    (n : Node) × (len : ℕ) × (p.at < p.end) × (slice_get p.nodes p.at ≡ Some n) × (item_of n ≡ array_item len (length bs))
+    × AreBytesAt p.nodes (p.at + 1) bs
+
+abbrev pub TakesBytes : Place → List ℕ → Place → Type 0
+TakesBytes old bs new = BeginsBytes old bs × (new ≡ record old { at = old.at + 1 + length bs; at_key = false })
+
 -- what each event is read from
 abbrev pub ReadsAs : Place → Event → Place → Type 0
 ReadsAs old (boolean b) new = TakesNode old (IsBool b) new
@@ -106,9 +121,7 @@ ReadsAs old (single x) new = TakesNode old (IsFloat binary32 x) new
 ReadsAs old (double x) new = TakesNode old (IsFloat binary64 x) new
 ReadsAs old (character c) new = TakesNode old (IsText (encode_utf8 c)) new
 ReadsAs old (text t) new = TakesNode old (IsText t) new
-ReadsAs old (octets bs) new =
-    TakesNode old (IsText bs) new
-    ⊎ ((n : Node) × (len count : ℕ) × (slice_get old.nodes old.at ≡ Some n) × (item_of n ≡ array_item len count))
+ReadsAs old (octets bs) new = TakesNode old (IsText bs) new ⊎ TakesBytes old bs new
 ReadsAs old nothing new = TakesNode old (λ _ item. item ≡ static_item fixed.Null) new
 ReadsAs old (unit_variant name case) new = ⊥
 ReadsAs old (seq_begins n) new = Opens old array_item new

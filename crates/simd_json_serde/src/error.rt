@@ -263,6 +263,11 @@ impl Error {
 }
 
 impl fmt::Display for Error {
+    ghost use Rattle.std.specs.Prelude.{Some};
+    ghost use Rattle.simd_json_serde.specs.Messages.{printed_error};
+
+    ghost output = { λ e. Some (printed_error e) };
+
     fn fmt<W: fmt::Write>(&self, f: &mut fmt::Formatter<W>) -> fmt::Result {
         match self {
             Error::Parse(e) => write!(f, "{e}"),

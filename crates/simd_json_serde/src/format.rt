@@ -1,25 +1,28 @@
 //! The steps of a read.
-ghost use Rattle.std.specs.Prelude.{◌≡◌, ◌≢◌, ◌⊎◌, ◌↔◌, ◌+◌, ℕ, true, false, length, slice_get};
+ghost use Rattle.std.specs.Prelude.{◌≡◌, ◌≢◌, ◌≤◌, ◌⊎◌, ◌↔◌, ◌+◌, ℕ, List, []};
+ghost use Rattle.std.specs.Prelude.{true, false, length, slice_get};
 ghost use Rattle.std.specs.Prelude.{take, nat_lt, is_some, IsTrue, MatchBool, MatchOption};
 ghost use Rattle.std.specs.Prelude.{Some, None, IfOk, IfErr, OnOk, OnErr};
-ghost use Rattle.std.specs.Prelude.{encode_utf8, string_bytes};
+ghost use Rattle.std.specs.Prelude.{encode_utf8, slice_range, string_bytes};
 ghost use Rattle.std.specs.Result.{result_ok};
 ghost use Rattle.std.specs.Char.{IsScalar};
 ghost use Rattle.std.specs.Float.{binary32, binary64};
 ghost use Rattle.serde.specs.Event.{boolean, signed as signed_event, unsigned as unsigned_event};
 ghost use Rattle.serde.specs.Event.{single, double, character, text as text_event};
 ghost use Rattle.serde.specs.Event.{nothing, seq_begins, seq_ends, map_begins, map_ends};
-ghost use Rattle.serde.specs.Event.{key_begins};
+ghost use Rattle.serde.specs.Event.{key_begins, octets, struct_begins};
 ghost use Rattle.simd_json_serde.specs.Ahead.{ahead, truth, signed, unsigned, float, text};
 ghost use Rattle.simd_json_serde.specs.Ahead.{kind_in, is_null, array_count, object_count};
-ghost use Rattle.simd_json_serde.specs.Ahead.{CanEnter, CanSkip, NothingIsLeft};
+ghost use Rattle.simd_json_serde.specs.Ahead.{CanEnter, CanSkip, NothingIsLeft, AreBytesAhead};
 ghost use Rattle.simd_json_serde.specs.Faults.{reader_fault, length_fault, IsFull, IsOfNext};
+ghost use Rattle.simd_json_serde.specs.Places.{place, LiesAhead};
 ghost use Rattle.simd_json_parts.specs.Document.{Document};
 ghost use Rattle.simd_json_parts.specs.Listing.{listing};
 ghost use Rattle.simd_json_parts.specs.Nodes.{item_of};
 ghost use Rattle.simd_json_parts.specs.declared.node.Node.{Node as SpecNode};
+ghost use Rattle.simd_json_serde.specs.declared.node_reader.NodeReader.{NodeReader as SpecReader};
 ghost use Rattle.simd_json_serde.specs.Steps.{ReadsAs, PicksName, Stands, nodes_beneath};
-ghost use Rattle.simd_json_serde.specs.Places.{place};
+ghost use Rattle.simd_json_serde.specs.Steps.{AreBytesAt, Closes};
 
 use crate::error::{Fault, MismatchKind};
 use crate::node_reader::{Mark, NodeReader, beneath};
@@ -197,13 +200,18 @@ impl<'n, 'i> Format for NodeReader<'n, 'i> {
     // Where the string is in the input. The bytes there are compared, so that nothing else has to
     // be known of them.
     #[inline(always)]
-    fn plain_str(&mut self, input: &[u8]) -> Result<(usize, usize), Fault> {
-        let index = self.at;
+    fn plain_str(&mut self, input: &[u8]) -> Result<(usize, usize), Fault>
+        ensures given { IfOk result (λ r. ReadsAs (place self.old)
+            (text_event (slice_range input.now r.0 r.1)) (place self.new)) }
+        ensures err { OnErr result (LiesAhead self.old input.now → ⊥) }
+        ensures place { IfErr result (IsOfNext self.old) }
+    {
+        let start = self.starts.get(self.at).copied();
         let text = self.take_string()?;
-        let Some(start) = self.starts.get(index) else {
+        let Some(start) = start else {
             return Err(self.fault(MismatchKind::InvalidValue));
         };
-        let start = *start as usize;
+        let start = start as usize;
         let end = start.saturating_add(text.len());
         if input.get(start..end) == Some(text.as_bytes()) {
             Ok((start, end))
@@ -212,7 +220,12 @@ impl<'n, 'i> Format for NodeReader<'n, 'i> {
         }
     }
 
-    fn plain_bytes(&mut self, input: &[u8]) -> Result<(usize, usize), Fault> {
+    fn plain_bytes(&mut self, input: &[u8]) -> Result<(usize, usize), Fault>
+        ensures given { IfOk result (λ r. ReadsAs (place self.old)
+            (octets (slice_range input.now r.0 r.1)) (place self.new)) }
+        ensures err { OnErr result (LiesAhead self.old input.now → ⊥) }
+        ensures place { IfErr result (IsOfNext self.old) }
+    {
         self.plain_str(input)
     }
 
@@ -232,7 +245,14 @@ impl<'n, 'i> Format for NodeReader<'n, 'i> {
     }
 
     // A string, or an array of integers.
-    fn byte_buf(&mut self, alloc: Global, input: &[u8]) -> Result<Vec<u8>, Fault> {
+    fn byte_buf(&mut self, alloc: Global, input: &[u8]) -> Result<Vec<u8>, Fault>
+        ensures given { IfOk result
+            (λ v. ReadsAs (place self.old) (octets v.items) (place self.new)) }
+        ensures err { IfErr result (λ e. (bytes : List ℕ)
+            → AreBytesAhead (place self.old) bytes → e.kind ≡ MismatchKind.OutOfMemory) }
+        ensures place { IfErr result (λ e. ahead array_count (place self.old) ≡ None
+            → IsOfNext self.old e) }
+    {
         if let Node::String(_) = self.look()? {
             return match Vec::from_slice(alloc, self.take_string()?.as_bytes()) {
                 Ok(bytes) => Ok(bytes),
@@ -240,19 +260,7 @@ impl<'n, 'i> Format for NodeReader<'n, 'i> {
             };
         }
         self.begin_seq(input)?;
-        let mut bytes = Vec::new(alloc);
-        for _ in 0..self.nodes.len() {
-            if !self.next_item(input)? {
-                return Ok(bytes);
-            }
-            let Ok(byte) = u8::try_from(self.u64(input)?) else {
-                return Err(self.fault(MismatchKind::InvalidValue));
-            };
-            if bytes.push(byte).is_err() {
-                return Err(self.fault(MismatchKind::OutOfMemory));
-            }
-        }
-        Err(self.fault(MismatchKind::MissingValue))
+        self.bytes_inside(alloc, input)
     }
 
     fn peek(&mut self, _input: &[u8]) -> Result<Kind, Fault>
@@ -338,7 +346,17 @@ impl<'n, 'i> Format for NodeReader<'n, 'i> {
     }
 
     #[inline(always)]
-    fn begin_struct(&mut self, _input: &[u8]) -> Result<bool, Fault> {
+    fn begin_struct(&mut self, _input: &[u8]) -> Result<bool, Fault>
+        ensures given { IfOk result
+            (λ b. ReadsAs (place self.old) (struct_begins b) (place self.new)
+            ⊎ ((looked : SpecReader) × (place looked ≡ place self.old)
+            × ReadsAs (place looked) (struct_begins b) (place self.new))) }
+        ensures header { IfOk result
+            (λ b. ReadsAs (place self.old) (struct_begins b) (place self.new)) }
+        ensures err { IfErr result (λ e. CanEnter array_count (place self.old)
+            ⊎ CanEnter object_count (place self.old) → IsFull self.old e) }
+        ensures place { IfErr result (IsOfNext self.old) }
+    {
         match self.take()? {
             Node::Object { count, .. } => {
                 self.enter(count)?;
@@ -516,6 +534,35 @@ impl<'n, 'i> Format for NodeReader<'n, 'i> {
         ensures { result ≡ reader_fault self.now MismatchKind.Custom }
     {
         self.named_fault(MismatchKind::Custom, message)
+    }
+}
+
+impl<'n, 'i> NodeReader<'n, 'i> {
+    // The integers of the array that is open, as bytes.
+    fn bytes_inside(&mut self, alloc: Global, input: &[u8]) -> Result<Vec<u8>, Fault>
+        requires at { self.old.at ≤ self.old.end }
+        requires value { self.old.at_key ≡ false }
+        requires open { self.old.outer.items ≢ [] }
+        ensures given { IfOk result (λ v. AreBytesAt self.old.nodes.now self.old.at v.items
+            × (self.old.at + length v.items ≡ self.old.end)) }
+        ensures closed { OnOk result
+            (Closes (record (place self.old) { at = self.old.end }) (place self.new)) }
+        ensures err { IfErr result (λ e. (bytes : List ℕ)
+            → self.old.at + length bytes ≡ self.old.end
+            → AreBytesAt self.old.nodes.now self.old.at bytes
+            → e.kind ≡ MismatchKind.OutOfMemory) }
+    {
+        let mut bytes = Vec::new(alloc);
+        'bytes: while self.at < self.end {
+            let Ok(byte) = u8::try_from(self.u64(input)?) else {
+                return Err(self.fault(MismatchKind::InvalidValue));
+            };
+            if bytes.push(byte).is_err() {
+                return Err(self.fault(MismatchKind::OutOfMemory));
+            }
+        }
+        self.leave()?;
+        Ok(bytes)
     }
 }
 

@@ -77,7 +77,7 @@
 //! their order (`IsPrinted`): of a number, a truth value, a string, `()` and `None` the one literal
 //! (of a float one that reads as it), of a `Vec`, a tuple or a map the texts of its members. A step
 //! fails for memory, out of place, or for a key or a float without text, and for nothing else
-//! (`specs/WriteFaults.antt`).
+//! (`specs/WriteFaults.antt`). What `collect_str` writes is what `Display` prints.
 //!
 //! Not proved, but tested beside `serde_json`: that a derived type is read as the document says,
 //! and what it sends, since derives have no contract; the path of a mismatch of [`from_slice`];

@@ -15,7 +15,7 @@ impl Model for Log {
     ghost also_owns = { λ _. ftrue };
 }
 
-// One call of a method, or `Lost` where what was written is not known.
+// One call of a method.
 #[derive(Clone, Copy, Drop)]
 pub(crate) enum Note<'a> {
     Bool(bool),
@@ -39,7 +39,6 @@ pub(crate) enum Note<'a> {
     BeginKey,
     EndKey,
     Flatten,
-    Lost,
 }
 
 impl Log {

@@ -1,5 +1,6 @@
 //! The steps of a write.
-ghost use Rattle.std.specs.Prelude.{◌≡◌, ◌==◌, [], false, string_bytes, IfOk, IfErr, IsOk, OnOk};
+ghost use Rattle.std.specs.Prelude.{◌≡◌, ◌==◌, [], false, string_bytes, IfOk, IfErr, IfSome, IsOk};
+ghost use Rattle.std.specs.Prelude.{OnOk};
 ghost use Rattle.serde.specs.Event.{Logs, boolean, signed, unsigned, single, double, character};
 ghost use Rattle.serde.specs.Event.{text, octets, nothing, unit_variant, seq_begins, seq_ends};
 ghost use Rattle.serde.specs.Event.{map_begins, map_ends, field_key, key_begins, key_ends};
@@ -313,6 +314,8 @@ impl<const PRETTY: u8> Serializer for TextWriter<PRETTY> {
     }
 
     fn collect_str<T: Display>(&mut self, value: &T) -> Result<(), WriteError>
+        ensures logs { OnOk result (IfSome (T.output value.now)
+            (λ printed. Logs self.old.log.events self.new.log.events (text printed))) }
         ensures err { IfErr result (IsScalarFault self.old) }
     {
         self.reject_flat()?;
@@ -320,8 +323,9 @@ impl<const PRETTY: u8> Serializer for TextWriter<PRETTY> {
         if write!(self.room, "{value}").is_err() {
             return Err(WriteError::OutOfMemory);
         }
-        self.log = self.log.then(&Note::Lost);
-        self.draft.set_string(self.room.as_str(), self.at_key)
+        let printed = self.room.as_str();
+        self.log = self.log.then(&Note::Text(printed));
+        self.draft.set_string(printed, self.at_key)
     }
 }
 

@@ -36,6 +36,10 @@ impl From<AllocError> for WriteError {
 }
 
 impl fmt::Display for WriteError {
+    ghost use Rattle.simd_json_serde.specs.Messages.{printed_write_error};
+
+    ghost output = { printed_write_error };
+
     fn fmt<W: fmt::Write>(&self, f: &mut fmt::Formatter<W>) -> fmt::Result {
         match self {
             WriteError::NotFinite => f.write_str("a float is not finite"),

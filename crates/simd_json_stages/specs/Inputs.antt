@@ -1,7 +1,11 @@
 -- What the machine can read of an input, and where a string ends in it.
-use Rattle.std.specs.Prelude.{◌≡◌, ◌≤◌, ◌<◌, ◌+◌, ◌^◌, ℕ, List, length, take, drop, IsTrue, IsFalse, IsUtf8}
+use Rattle.std.specs.Prelude.{◌≡◌, ◌≤◌, ◌<◌, ◌+◌, ◌^◌, ℕ, List, length, take, drop, true, IsTrue, IsFalse, IsUtf8}
 use Rattle.simd_json_parts.specs.Bytes.{quote, byte_at}
+use Rattle.simd_json_parts.specs.Derivatives.{matches}
+use Rattle.simd_json_parts.specs.Integers.{integer_node}
+use Rattle.simd_json_parts.specs.Numbers.{has_minus, integer_literal, magnitude}
 use Rattle.simd_json_parts.specs.StringAt.{closing_quote}
+use Rattle.simd_json_parts.specs.declared.node.StaticNode.{StaticNode}
 use Rattle.simd_json_stages.specs.EscapesAhead.{AreAhead, PlainFrom}
 use Rattle.simd_json_stages.specs.declared.stage2.escapes.Escapes.{Escapes}
 use Rattle.simd_json_stages.specs.declared.stage2.input.Input.{Input}
@@ -50,6 +54,12 @@ pub record HasBytes (can_read : List ℕ → ℕ → Type 0) (i len : ℕ) : Typ
 pub record HasString (can_read : List ℕ → ℕ → Type 0) (i len : ℕ) : Type 0 where
   pub bytes : HasBytes can_read i len
   pub utf8 : IsUtf8 (take len (drop i bytes.b))
+
+-- they are the literal of an integer that fits a node
+pub record HasInteger (can_read : List ℕ → ℕ → Type 0) (i len : ℕ) (value : StaticNode) : Type 0 where
+  pub string : HasString can_read i len
+  pub matched : matches integer_literal (take len (drop i string.bytes.b)) ≡ true
+  pub is : value ≡ integer_node (has_minus (take len (drop i string.bytes.b))) (magnitude (take len (drop i string.bytes.b)))
 
 -- Some input can be read from index i on, where a string begins that is closed before an index.
 pub record HasQuoted (can_read : List ℕ → ℕ → Type 0) (i next : ℕ) : Type 0 where

@@ -34,12 +34,13 @@ impl ReadError {
         &self.inner.path
     }
 
-    /// The reason, as "expected a value, found `]`", or in the words of `serde`.
+    /// The reason, as "expected a value, found `]`", or in the words of `serde`. Where there is no location it is the kind of the
+    /// error of an input, with its index.
     pub fn reason(&self) -> &str {
         &self.inner.reason
     }
 
-    /// Where it is in the input. `None` where a value of a tape was read, or an allocation failed.
+    /// Where it is in the input. `None` where a value of a tape was read, the input was overwritten, or an allocation failed.
     pub fn location(&self) -> Option<&Location> {
         self.inner.location.as_ref()
     }
@@ -60,9 +61,9 @@ impl ReadError {
     }
 
     #[cold]
-    pub(super) fn of_parse(error: Error, input: &[u8]) -> ReadError {
-        let location = located(input, &error).ok();
-        let reason = location.as_ref().map_or_else(|| error.error().to_string(), |at| at.reason.clone());
+    pub(super) fn of_parse(error: Error, input: Option<&[u8]>) -> ReadError {
+        let location = input.and_then(|input| located(input, &error).ok());
+        let reason = location.as_ref().map_or_else(|| error.to_string(), |at| at.reason.clone());
         let mut read = ReadError::new(reason);
         (read.inner.parse, read.inner.location) = (Some(error), location);
         read

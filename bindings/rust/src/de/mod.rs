@@ -28,7 +28,7 @@ use serde::de::{Deserialize, DeserializeOwned, Deserializer, Visitor};
 ///
 /// Nothing may be borrowed, so this does not compile:
 ///
-/// ```compile_fail,E0277
+/// ```compile_fail
 /// let text: &str = simd_json_proved::from_slice(br#""a""#).unwrap();
 /// ```
 ///
@@ -48,8 +48,8 @@ pub fn from_str<T: DeserializeOwned>(input: &str) -> Result<T, ReadError> {
     from_slice(input.as_bytes())
 }
 
-/// Reads a document as a type, in memory that is kept for the next. The type may borrow strings from this memory: a `&str` is
-/// borrowed with its escapes decoded, without a copy.
+/// Reads a document as a type, in memory that is kept for the next. The type may borrow strings from the copy there: a `&str` is
+/// borrowed with its escapes decoded. Without that copy it is [`from_slice_mut_with`].
 ///
 /// ```
 /// use simd_json_proved::{from_slice_with, Buffers};
@@ -83,7 +83,74 @@ pub fn from_str<T: DeserializeOwned>(input: &str) -> Result<T, ReadError> {
 pub fn from_slice_with<'b, T: Deserialize<'b>>(buffers: &'b mut Buffers, input: &[u8]) -> Result<T, ReadError> {
     match buffers.value(input) {
         Ok(value) => T::deserialize(&mut Reader::of(value)).map_err(|error| error.in_input(value, input)),
-        Err(error) => Err(ReadError::of_parse(error, input)),
+        Err(error) => Err(ReadError::of_parse(error, Some(input))),
+    }
+}
+
+/// Reads a document as a type, without a copy. The input is overwritten, and the type may borrow strings from it, each with its
+/// escapes decoded.
+///
+/// ```
+/// #[derive(serde::Deserialize)]
+/// struct Line<'a> {
+///     level: &'a str,
+///     status: u16,
+/// }
+///
+/// let mut input = *br#"{"level":"\u0065rror","status":500}"#;
+/// let line: Line = simd_json_proved::from_slice_mut(&mut input)?;
+/// assert_eq!((line.level, line.status), ("error", 500));
+/// # Ok::<(), simd_json_proved::ReadError>(())
+/// ```
+///
+/// While something is borrowed from it the input can't be changed or dropped, so these do not compile:
+///
+/// ```compile_fail,E0506
+/// let mut input = *br#""a""#;
+/// let text: &str = simd_json_proved::from_slice_mut(&mut input).unwrap();
+/// input[1] = b'b';
+/// println!("{text}");
+/// ```
+///
+/// ```compile_fail,E0505
+/// let mut input = br#""a""#.to_vec();
+/// let text: &str = simd_json_proved::from_slice_mut(&mut input).unwrap();
+/// drop(input);
+/// println!("{text}");
+/// ```
+///
+/// # Errors
+///
+/// As those of [`from_slice`], but without a line and a column, since the text is lost.
+pub fn from_slice_mut<'de, T: Deserialize<'de>>(input: &'de mut [u8]) -> Result<T, ReadError> {
+    from_slice_mut_with(&mut Buffers::default(), input)
+}
+
+/// [`from_slice_mut`] in memory that is kept for the next, from which nothing is borrowed.
+///
+/// ```
+/// use simd_json_proved::{from_slice_mut_with, Buffers};
+///
+/// let (mut buffers, mut text) = (Buffers::default(), *br#""a""b""#);
+/// let (first, second) = text.split_at_mut(3);
+/// let first: &str = from_slice_mut_with(&mut buffers, first)?;
+/// let second: &str = from_slice_mut_with(&mut buffers, second)?;
+/// assert_eq!((first, second), ("a", "b"));
+/// # Ok::<(), simd_json_proved::ReadError>(())
+/// ```
+///
+/// # Errors
+///
+/// As those of [`from_slice_mut`].
+pub fn from_slice_mut_with<'de, T: Deserialize<'de>>(
+    buffers: &mut Buffers,
+    input: &'de mut [u8],
+) -> Result<T, ReadError> {
+    match buffers.nodes_in(input) {
+        Ok((nodes, texts)) => {
+            T::deserialize(&mut Reader::new(nodes, texts)).map_err(|error| error.beneath(Value::new(nodes, texts)))
+        }
+        Err(error) => Err(ReadError::of_parse(error, None)),
     }
 }
 
@@ -97,13 +164,13 @@ impl Index<'_> {
         match self.find(pointer) {
             Ok(Some(value)) => T::deserialize(value).map(Some),
             Ok(None) => Ok(None),
-            Err(error) => Err(ReadError::of_parse(error, b"")),
+            Err(error) => Err(ReadError::of_parse(error, None)),
         }
     }
 }
 
 impl<'de> Value<'de> {
-    fn read<T>(self, read: impl FnOnce(&mut Reader<'de>) -> Result<T, ReadError>) -> Result<T, ReadError> {
+    fn read<T>(self, read: impl FnOnce(&mut Reader<'de, 'de>) -> Result<T, ReadError>) -> Result<T, ReadError> {
         read(&mut Reader::of(self)).map_err(|error| error.beneath(self))
     }
 }

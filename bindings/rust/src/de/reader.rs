@@ -1,7 +1,7 @@
 //! The nodes of a value, which are taken one after another.
 use super::error::ReadError;
 use super::key::Key;
-use crate::ffi::Node;
+use crate::ffi::{Node, Texts};
 use crate::number::nearest;
 use crate::value::Value;
 use serde::de::value::BorrowedStrDeserializer;
@@ -10,15 +10,21 @@ use serde::de::{
     Visitor,
 };
 
-pub(super) struct Reader<'de> {
-    rest: &'de [Node],
-    text: &'de str,
+pub(super) struct Reader<'n, 'de> {
+    rest: &'n [Node],
+    texts: Texts<'de>,
 }
 
-impl<'de> Reader<'de> {
-    pub(super) fn of(value: Value<'de>) -> Reader<'de> {
-        let (rest, text) = value.parts();
-        Reader { rest, text }
+impl<'de> Reader<'de, 'de> {
+    pub(super) fn of(value: Value<'de>) -> Reader<'de, 'de> {
+        let (rest, texts) = value.parts();
+        Reader { rest, texts }
+    }
+}
+
+impl<'n, 'de> Reader<'n, 'de> {
+    pub(super) fn new(rest: &'n [Node], texts: Texts<'de>) -> Reader<'n, 'de> {
+        Reader { rest, texts }
     }
 
     #[inline]
@@ -27,7 +33,7 @@ impl<'de> Reader<'de> {
     }
 
     #[inline]
-    fn take(&mut self) -> &'de Node {
+    fn take(&mut self) -> &'n Node {
         let node = &self.rest[0];
         self.rest = &self.rest[1..];
         node
@@ -35,12 +41,12 @@ impl<'de> Reader<'de> {
 
     #[inline]
     fn text(&self, node: &Node) -> &'de str {
-        &self.text[node.value as usize..node.value as usize + node.len as usize]
+        self.texts.of(node)
     }
 
     #[inline]
     fn double(&self, node: &Node) -> f64 {
-        nearest(&self.text.as_bytes()[node.value as usize..node.value as usize + node.len as usize])
+        nearest(self.text(node).as_bytes())
     }
 
     // Takes a node that fits, or says that it does not.
@@ -48,7 +54,7 @@ impl<'de> Reader<'de> {
     fn visit<V: Visitor<'de>>(
         &mut self,
         visitor: V,
-        read: impl FnOnce(&mut Self, &'de Node, V) -> Result<V::Value, ReadError>,
+        read: impl FnOnce(&mut Self, &'n Node, V) -> Result<V::Value, ReadError>,
     ) -> Result<V::Value, ReadError> {
         let left = self.rest.len();
         let node = self.take();
@@ -140,7 +146,7 @@ macro_rules! texts {
     )*};
 }
 
-impl<'de> Deserializer<'de> for &mut Reader<'de> {
+impl<'de> Deserializer<'de> for &mut Reader<'_, 'de> {
     type Error = ReadError;
 
     #[inline]
@@ -295,7 +301,7 @@ impl<'de> Deserializer<'de> for &mut Reader<'de> {
     }
 }
 
-impl<'de> Reader<'de> {
+impl<'de> Reader<'_, 'de> {
     fn text_of_number(&self, node: &Node) -> &'de str {
         if matches!(node.kind, Node::DECIMAL | Node::I128 | Node::U128) {
             self.text(node)
@@ -312,12 +318,12 @@ impl<'de> Reader<'de> {
 }
 
 /// What is left of a container.
-struct Members<'r, 'de> {
-    reader: &'r mut Reader<'de>,
+struct Members<'r, 'n, 'de> {
+    reader: &'r mut Reader<'n, 'de>,
     left: u32,
 }
 
-impl Members<'_, '_> {
+impl Members<'_, '_, '_> {
     fn end(&self, node: &Node) -> Result<(), ReadError> {
         match self.left {
             0 => Ok(()),
@@ -334,7 +340,7 @@ impl serde::de::Expected for Fewer {
     }
 }
 
-impl<'de> SeqAccess<'de> for Members<'_, 'de> {
+impl<'de> SeqAccess<'de> for Members<'_, '_, 'de> {
     type Error = ReadError;
 
     #[inline]
@@ -351,7 +357,7 @@ impl<'de> SeqAccess<'de> for Members<'_, 'de> {
     }
 }
 
-impl<'de> MapAccess<'de> for Members<'_, 'de> {
+impl<'de> MapAccess<'de> for Members<'_, '_, 'de> {
     type Error = ReadError;
 
     #[inline]
@@ -373,7 +379,7 @@ impl<'de> MapAccess<'de> for Members<'_, 'de> {
     }
 }
 
-impl<'de> EnumAccess<'de> for &mut Reader<'de> {
+impl<'de> EnumAccess<'de> for &mut Reader<'_, 'de> {
     type Error = ReadError;
     type Variant = Self;
 
@@ -383,7 +389,7 @@ impl<'de> EnumAccess<'de> for &mut Reader<'de> {
     }
 }
 
-impl<'de> VariantAccess<'de> for &mut Reader<'de> {
+impl<'de> VariantAccess<'de> for &mut Reader<'_, 'de> {
     type Error = ReadError;
 
     fn unit_variant(self) -> Result<(), ReadError> {

@@ -1,8 +1,9 @@
 //! What the arguments of `jpick` ask for, and how files are picked of in turn.
 use crate::tests::Tested;
 use bumpalo::Bump;
-use jpick::{Filter, Layout, Unasked, asked, pick_each};
+use jpick::{Layout, Query, Unasked, asked, pick_each};
 use jsonl::Failure;
+use simd_json_path::{Comparable, Comparison, PathError, PathExpected, Test};
 use std::alloc::{AllocError, Global};
 
 // The words of a command line.
@@ -135,7 +136,10 @@ fn arguments_are_read(rt: HostRuntime) -> Tested {
         assert_eq!(rt; wanted.layout, layout);
         assert_eq!(rt; [wanted.is_raw, wanted.needs_all, wanted.is_quiet], flags);
         assert_eq!(rt; wanted.longest, longest);
-        assert_eq!(rt; wanted.pointers, ["/a", "/b"].as_slice());
+        match wanted.queries {
+            [first, second] => assert_eq!(rt; (first.text(), second.text()), ("/a", "/b")),
+            _ => assert!(rt; false),
+        }
         assert_eq!(rt; wanted.filters.len(), 0);
         assert_eq!(rt; options.files(), files);
     }
@@ -156,36 +160,63 @@ fn a_depth_is_read(rt: HostRuntime) -> Tested {
     Ok(())
 }
 
-// Those of `--where` are first, and those of `--exists` last; each in the order of its words.
+// What begins with `$` is a JSONPath, and else a JSON Pointer.
+#[test]
+fn queries_are_read(rt: HostRuntime) -> Tested {
+    let words = words(
+        rt.alloc(),
+        &["$.a", "--and", "/$", "--and=$[*].a", "--and", ""],
+    )?;
+    let arena = Bump::new(rt.alloc());
+    let Ok(options) = asked(rt.alloc(), &arena, words.as_slice()) else {
+        assert!(rt; false);
+        return Ok(());
+    };
+    match options.wanted().queries {
+        [
+            Query::Path(first, name),
+            Query::Pointer(second),
+            Query::Path(third, all),
+            Query::Pointer(last),
+        ] => {
+            assert_eq!(rt;
+                [*first, *second, *third, *last],
+                ["$.a", "/$", "$[*].a", ""]
+            );
+            assert_eq!(rt; (name.steps.len(), name.segments.len()), (1, 0));
+            assert_eq!(rt; (all.steps.len(), all.segments.len()), (0, 1));
+        }
+        _ => assert!(rt; false),
+    }
+    Ok(())
+}
+
+// In the order of the words.
 #[test]
 fn conditions_are_read(rt: HostRuntime) -> Tested {
-    let arguments = [
-        "--exists",
-        "/e",
-        "--where-not",
-        "/n=[1]",
-        "--where",
-        "/a=1",
-        "--where=/b=\"=\"",
-        "/k",
-    ];
-    let words = words(rt.alloc(), &arguments)?;
+    let words = words(
+        rt.alloc(),
+        &["--where", "@.a", "/k", "--where=@.b < 1", "--where", "!@.c"],
+    )?;
     let arena = Bump::new(rt.alloc());
     let Ok(options) = asked(rt.alloc(), &arena, words.as_slice()) else {
         assert!(rt; false);
         return Ok(());
     };
     match options.wanted().filters {
-        [
-            Filter::Is(first, one),
-            Filter::Is(second, equals),
-            Filter::IsNot(third, list),
-            Filter::Exists(last),
-        ] => {
-            assert_eq!(rt; [*first, *second, *third, *last], ["/a", "/b", "/n", "/e"]);
-            assert_eq!(rt; one.as_u64(), Some(1));
-            assert_eq!(rt; equals.as_str(), Some("="));
-            assert!(rt; list.is_array());
+        [first, second, last] => {
+            assert!(rt; matches!(first.test, Test::Exists(_)));
+            assert!(rt;
+                matches!(
+                    second.test,
+                    Test::Compare(
+                        Comparable::Query(_),
+                        Comparison::Less,
+                        Comparable::Literal(_)
+                    )
+                )
+            );
+            assert!(rt; matches!(last.test, Test::Not(_)));
         }
         _ => assert!(rt; false),
     }
@@ -193,23 +224,86 @@ fn conditions_are_read(rt: HostRuntime) -> Tested {
 }
 
 #[test]
-fn wrong_arguments_are_named(rt: HostRuntime) -> Tested {
-    let rows: [(&[&str], &str, &str); 7] = [
-        (&["a"], "a", ""),
-        (&["/a", "--and", "/~"], "/~", ""),
-        (&["/a", "--exists", "b"], "b", ""),
-        (&["/a", "--where", "b=1"], "b", ""),
-        (&["/a", "--where", "/b"], "", "/b"),
-        (&["/a", "--where-not", "/b="], "", "/b="),
-        (&["/a", "--where", "/b=[1,]"], "", "/b=[1,]"),
+fn wrong_queries_are_named(rt: HostRuntime) -> Tested {
+    let rows: [(&[&str], &str); 3] = [
+        (&["a"], "a"),
+        (&["/a", "--and", "/~"], "/~"),
+        (&["/a", "--and", "@.a"], "@.a"),
     ];
-    for (arguments, pointer, condition) in rows {
+    for (arguments, query) in rows {
         let words = words(rt.alloc(), arguments)?;
         let arena = Bump::new(rt.alloc());
         match asked(rt.alloc(), &arena, words.as_slice()) {
-            Err(Unasked::NoPointer(word)) => assert_eq!(rt; (word, ""), (pointer, condition)),
-            Err(Unasked::NoCondition(word)) => assert_eq!(rt; ("", word), (pointer, condition)),
+            Err(Unasked::NoQuery(word)) => assert_eq!(rt; word, query),
             _ => assert!(rt; false),
+        }
+    }
+    Ok(())
+}
+
+// Where a text is no JSONPath or no condition, and what it lacks there.
+#[test]
+fn wrong_places_are_named(rt: HostRuntime) -> Tested {
+    let rows: [(&[&str], &str, &str, usize, PathExpected); 6] = [
+        (&["$.a["], "$.a[", "", 4, PathExpected::Selector),
+        (&["/a", "--and", "$a"], "$a", "", 1, PathExpected::Segment),
+        (
+            &["/a", "--where", "/b=1"],
+            "",
+            "/b=1",
+            0,
+            PathExpected::Test,
+        ),
+        (
+            &["/a", "--where", "@.b = 1"],
+            "",
+            "@.b = 1",
+            4,
+            PathExpected::End,
+        ),
+        (&["/a", "--where="], "", "", 0, PathExpected::Test),
+        (
+            &["/a", "--where", "match(@.b, 'c')"],
+            "",
+            "match(@.b, 'c')",
+            0,
+            PathExpected::WithoutPattern,
+        ),
+    ];
+    for (arguments, path, condition, index, expected) in rows {
+        let words = words(rt.alloc(), arguments)?;
+        let arena = Bump::new(rt.alloc());
+        let lacks = PathError { index, expected };
+        match asked(rt.alloc(), &arena, words.as_slice()) {
+            Err(Unasked::NoPath(word, e)) => {
+                assert_eq!(rt; (word, "", e), (path, condition, lacks));
+            }
+            Err(Unasked::NoCondition(word, e)) => {
+                assert_eq!(rt; ("", word, e), (path, condition, lacks));
+            }
+            _ => assert!(rt; false),
+        }
+    }
+    Ok(())
+}
+
+// The frames of a path with `..` grow with the depth limit.
+#[test]
+fn depths_have_a_bound(rt: HostRuntime) -> Tested {
+    let rows: [(&[&str], usize); 5] = [
+        (&["$..a"], 0),
+        (&["$.a", "--depth=1000000"], 0),
+        (&["/a", "--depth=1000000"], 0),
+        (&["$..a", "--depth=2000"], 2000),
+        (&["/a", "--and", "$.a..b", "--depth=1088"], 1088),
+    ];
+    for (arguments, depth) in rows {
+        let words = words(rt.alloc(), arguments)?;
+        let arena = Bump::new(rt.alloc());
+        match asked(rt.alloc(), &arena, words.as_slice()) {
+            Ok(_) => assert_eq!(rt; depth, 0),
+            Err(Unasked::TooDeep(limit)) => assert_eq!(rt; limit, depth),
+            Err(_) => assert!(rt; false),
         }
     }
     Ok(())

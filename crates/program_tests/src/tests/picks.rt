@@ -1,15 +1,17 @@
 //! Runs over lines, blocks and failures.
 use crate::tests::{Blocks, FAULTS, Full, Hungry, Tested, failing, in_blocks, many_lines};
-use jpick::{Filter, Layout, Wanted, run};
+use bumpalo::Bump;
+use jpick::{Layout, Query, Wanted, run};
 use jsonl::{Channel, Failure};
 use linked_list_allocator::LocalHeap;
+use simd_json_path::{Filter, Path, PathError, Segment, Selector};
 use std::alloc::Global;
 use std::io::ErrorKind;
 
-// The values at `pointers` in lines of at most ten bytes.
-fn wanted<'a>(pointers: &'a [&'a str], layout: Layout) -> Wanted<'a> {
+// What the queries select of lines of at most ten bytes.
+fn wanted<'a>(queries: &'a [Query<'a>], layout: Layout) -> Wanted<'a> {
     Wanted {
-        pointers,
+        queries,
         filters: &[],
         layout,
         is_raw: false,
@@ -79,7 +81,7 @@ fn lines_are_picked_however_they_are_cut(rt: HostRuntime) {
             false,
         ),
     ];
-    let wanted = wanted(&["/k"], Layout::Tabs);
+    let wanted = wanted(&[Query::Pointer("/k")], Layout::Tabs);
     for (input, picked, rejections, all_taken) in rows {
         for size in 1..24 {
             let ran = run_by(rt.alloc(), &wanted, size, input);
@@ -122,7 +124,7 @@ fn documents_are_hinted_at(rt: HostRuntime) -> Tested {
             "",
         ),
     ];
-    let wanted = wanted(&["/k"], Layout::Tabs);
+    let wanted = wanted(&[Query::Pointer("/k")], Layout::Tabs);
     for (input, first, rest) in rows {
         let ran = run_by(rt.alloc(), &wanted, 16, input);
         let hint = if first.contains("1:1: the input") || first.contains("1:3: the input") {
@@ -162,7 +164,7 @@ fn documents_are_picked(rt: HostRuntime) {
             false,
         ),
     ];
-    let mut wanted = wanted(&["/k"], Layout::Tabs);
+    let mut wanted = wanted(&[Query::Pointer("/k")], Layout::Tabs);
     wanted.is_document = true;
     for (input, picked, rejections, all_taken) in rows {
         for size in 1..24 {
@@ -177,7 +179,7 @@ fn documents_are_picked(rt: HostRuntime) {
 // Rejected lines are not named, but the run still returns that there are any.
 #[test]
 fn quiet_runs_name_nothing(rt: HostRuntime) {
-    let mut wanted = wanted(&["/k"], Layout::Tabs);
+    let mut wanted = wanted(&[Query::Pointer("/k")], Layout::Tabs);
     wanted.is_quiet = true;
     let ran = run_by(rt.alloc(), &wanted, 64, b"[1,]\n{\"k\":1}\n12345678901");
     assert_eq!(rt; ran.result, Ok(false));
@@ -192,7 +194,7 @@ fn rows_have_layouts(rt: HostRuntime) {
     let input = b"{\"a\":\"x\\ty\\\\\\\"\\n\\r\",\"b\":null,\"c\":true,\"d\":-1.50,\
         \"e\":[1, \"\\\"\\n\"]}\n"
         .as_slice();
-    let pointers = ["/a", "/b", "/c", "/d", "/e", "/f"].as_slice();
+    let queries = ["/a", "/b", "/c", "/d", "/e", "/f"].map(Query::Pointer);
     let rows: [(Layout, bool, &[u8]); 5] = [
         (
             Layout::Tabs,
@@ -221,7 +223,7 @@ fn rows_have_layouts(rt: HostRuntime) {
         ),
     ];
     for (layout, is_raw, row) in rows {
-        let mut wanted = wanted(pointers, layout);
+        let mut wanted = wanted(queries.as_slice(), layout);
         wanted.is_raw = is_raw;
         wanted.longest = 100;
         let ran = run_by(rt.alloc(), &wanted, 64, input);
@@ -230,34 +232,122 @@ fn rows_have_layouts(rt: HostRuntime) {
     }
 }
 
-// Lines without a value are passed over. The other conditions are in `tests/statuses.sh`.
+// Of a lone path that is not singular there is a row for each value, and of one among several a
+// column with their array; of a singular one a row with the value, or without one.
 #[test]
-fn filters_pass_lines_over(rt: HostRuntime) {
+fn paths_are_rows_and_arrays(rt: HostRuntime) -> Tested {
+    let input = b"{\"k\":[\"a\",null,[1, 2]]}\n{\"k\":[]}\n{}\n".as_slice();
+    let rows: [(&[&str], Layout, &[u8]); 12] = [
+        (&["$.k[*]"], Layout::Tabs, b"\"a\"\nnull\n[1,2]\n"),
+        (&["$.k[*]"], Layout::Tsv, b"a\n\n[1,2]\n"),
+        (&["$.k[*]"], Layout::Csv, b"\"a\"\n\n\"[1,2]\"\n"),
+        (&["$.k[*]"], Layout::Json, b"[\"a\"]\n[null]\n[[1,2]]\n"),
+        (
+            &["$.k[*]", "$['k'][2]"],
+            Layout::Tabs,
+            b"[\"a\",null,[1,2]]\t[1,2]\n[]\t\n[]\t\n",
+        ),
+        (
+            &["$.k[*]", "$['k'][2]"],
+            Layout::Tsv,
+            b"[\"a\",null,[1,2]]\t[1,2]\n[]\t\n[]\t\n",
+        ),
+        (
+            &["$.k[*]", "$['k'][2]"],
+            Layout::Csv,
+            b"\"[\"\"a\"\",null,[1,2]]\",\"[1,2]\"\n\"[]\",\n\"[]\",\n",
+        ),
+        (
+            &["$.k[*]", "$['k'][2]"],
+            Layout::Json,
+            b"[[\"a\",null,[1,2]],[1,2]]\n[[],null]\n[[],null]\n",
+        ),
+        (&["$.k[2]"], Layout::Tabs, b"[1,2]\n\n\n"),
+        (&["$.k[2]", "/k/0"], Layout::Tabs, b"[1,2]\t\"a\"\n\t\n\t\n"),
+        (&["$..[1]"], Layout::Tabs, b"null\n2\n"),
+        (
+            &["$.k[?@ == 'a']", "$[?@[1]]..*"],
+            Layout::Tabs,
+            b"[\"a\"]\t[\"a\",null,[1,2],1,2]\n[]\t[]\n[]\t[]\n",
+        ),
+    ];
+    for (texts, layout, picked) in rows {
+        let arena = Bump::new(rt.alloc());
+        let mut queries = Vec::new(rt.alloc());
+        for text in texts {
+            queries.push(query(&arena, *text)?)?;
+        }
+        let mut wanted = wanted(queries.as_slice(), layout);
+        wanted.longest = 100;
+        let ran = run_by(rt.alloc(), &wanted, 16, input);
+        assert_eq!(rt; ran.result, Ok(true));
+        assert_eq!(rt; ran.rows.as_slice(), picked);
+    }
+    Ok(())
+}
+
+fn query<'a>(arena: &'a Bump, text: &'a str) -> Result<Query<'a>, PathError> {
+    if text.starts_with('$') {
+        return Ok(Query::Path(text, Path::new(arena, text)?));
+    }
+    Ok(Query::Pointer(text))
+}
+
+// A path of segments by hand, which `Path::new` would read as steps, is singular too.
+#[test]
+fn paths_of_names_are_singular(rt: HostRuntime) {
+    let names = [Selector::Name("k")];
+    let selectors = [Selector::Name("k"), Selector::Index(0)];
+    let rows: [(&[Selector<'_>], bool, &[u8]); 3] = [
+        (names.as_slice(), false, b"1\n\n"),
+        (selectors.as_slice(), false, b"1\n2\n"),
+        (names.as_slice(), true, b"1\n"),
+    ];
+    for (selectors, is_descendant, picked) in rows {
+        let segments = [Segment {
+            selectors,
+            is_descendant,
+            steps: &[],
+        }];
+        let path = Path {
+            steps: &[],
+            segments: segments.as_slice(),
+        };
+        let queries = [Query::Path("by hand", path)];
+        let wanted = wanted(queries.as_slice(), Layout::Tabs);
+        let ran = run_by(rt.alloc(), &wanted, 16, b"{\"k\":1}\n[2]\n");
+        assert_eq!(rt; ran.result, Ok(true));
+        assert_eq!(rt; ran.rows.as_slice(), picked);
+    }
+}
+
+// A line must pass all filters. More of them are in `tests/statuses.sh`.
+#[test]
+fn filters_pass_lines_over(rt: HostRuntime) -> Tested {
+    let arena = Bump::new(rt.alloc());
+    let filters = [
+        Filter::new(&arena, "@.k")?,
+        Filter::new(&arena, "@.k != 2")?,
+    ];
     let wanted = Wanted {
-        pointers: &["/k"],
-        filters: &[Filter::Exists("/k"), Filter::Exists("")],
-        layout: Layout::Tabs,
-        is_raw: false,
-        needs_all: false,
-        is_quiet: false,
-        longest: 10,
-        depth: 1024,
-        is_document: false,
+        filters: filters.as_slice(),
+        ..wanted(&[Query::Pointer("/k")], Layout::Tabs)
     };
     let ran = run_by(
         rt.alloc(),
         &wanted,
         16,
-        b"{\"k\":1}\n{}\n[]\n{\"k\":[]}\n[1,]\n",
+        b"{\"k\":1}\n{}\n[]\n{\"k\":[]}\n[1,]\n{\"k\":2}\n",
     );
     assert_eq!(rt; ran.result, Ok(false));
     assert_eq!(rt; ran.rows.as_slice(), b"1\n[]\n".as_slice());
+    Ok(())
 }
 
-// A line is left out where one of the pointers has no value.
+// A line is left out where one of the queries selects nothing.
 #[test]
 fn all_values_are_needed(rt: HostRuntime) {
-    let mut wanted = wanted(&["/0", "/1"], Layout::Csv);
+    let mut wanted = wanted(&[Query::Pointer("/0"), Query::Pointer("/1")], Layout::Csv);
     wanted.needs_all = true;
     let ran = run_by(rt.alloc(), &wanted, 16, b"[1,2]\n[1]\n{}\n[null,0]\n");
     assert_eq!(rt; ran.result, Ok(true));
@@ -290,7 +380,7 @@ fn run_into(
         size: 9,
         fault,
     });
-    let wanted = wanted(&["/k"], Layout::Tabs);
+    let wanted = wanted(&[Query::Pointer("/k")], Layout::Tabs);
     let result = run(alloc, &wanted, "f", &mut reader, &mut out, &mut rejections);
     Stopped {
         result,
@@ -374,12 +464,14 @@ fn no_memory_is_taken_after_the_start(rt: HostRuntime) -> Tested {
     });
     let mut out = Channel::new(Vec::new(rt.alloc()));
     let mut rejections = Channel::new(Vec::new(rt.alloc()));
-    let mut wanted = wanted(&["/a", "/k"], Layout::Tsv);
+    let arena = Bump::new(rt.alloc());
+    let queries = [query(&arena, "/a")?, query(&arena, "$..k")?];
+    let mut wanted = wanted(queries.as_slice(), Layout::Tsv);
     wanted.longest = 4096;
     let result = run(&heap, &wanted, "f", &mut reader, &mut out, &mut rejections);
     assert_eq!(rt; result, Ok(false));
     let rows = out.into_inner();
-    assert!(rt; rows.starts_with(b"[[\"\\\\n\"]]\t0\n\t    "));
+    assert!(rt; rows.starts_with(b"[[\"\\\\n\"]]\t[\"0\"]\n\t[\"    "));
     assert_eq!(rt;
         rows.as_slice()
             .iter()
@@ -395,7 +487,7 @@ fn no_memory_is_taken_after_the_start(rt: HostRuntime) -> Tested {
 #[test]
 fn documents_that_fail(rt: HostRuntime) -> Tested {
     let input = b"{\"k\":[[1],[2]]}\n".as_slice();
-    let mut wanted = wanted(&["/k"], Layout::Tabs);
+    let mut wanted = wanted(&[Query::Pointer("/k")], Layout::Tabs);
     wanted.is_document = true;
     let mut reader = Channel::new(Blocks {
         rest: input,
@@ -460,7 +552,7 @@ fn documents_that_fail(rt: HostRuntime) -> Tested {
 #[test]
 fn too_little_memory_ends_the_run(rt: HostRuntime) -> Tested {
     let input = b"{\"k\":1}\n[1,]\n".as_slice();
-    let wanted = wanted(&["/k"], Layout::Tabs);
+    let wanted = wanted(&[Query::Pointer("/k")], Layout::Tabs);
     let (mut has_failed, mut has_run) = (false, false);
     for size in 1..96 {
         let heap = LocalHeap::new(rt.alloc(), size << 13)?;

@@ -1,5 +1,5 @@
 //! The tasks by a tape.
-use super::{ERROR, WANTED, distinct, level_mark, mark};
+use super::{ASKED, ERROR, WANTED, distinct, level_mark, mark};
 use memchr::memchr;
 use simd_json::tape::{Array, Value};
 use simd_json::{Buffers, Tape, fill_tape};
@@ -51,6 +51,8 @@ fn answer(alloc: Global, root: Value<'_, '_>, task: u32) -> Option<u64> {
         4 => catalogue(root),
         5 => literals(root),
         6 => floats(root),
+        8 => asked(root, false),
+        9 => asked(root, true),
         _ => None,
     }
 }
@@ -129,6 +131,41 @@ fn catalogue(root: Value<'_, '_>) -> Option<u64> {
         }
     }
     Some(sum)
+}
+
+fn asked(root: Value<'_, '_>, is_beneath: bool) -> Option<u64> {
+    let mut sum = 0u64;
+    for _ in 0..ASKED {
+        let found = if is_beneath {
+            amounts_beneath(root)
+        } else {
+            amounts(root)?
+        };
+        sum = sum.wrapping_add(found);
+    }
+    Some(sum)
+}
+
+#[inline(never)]
+fn amounts(root: Value<'_, '_>) -> Option<u64> {
+    let mut sum = 0u64;
+    for performance in root.get_array("performances")?.iter() {
+        for price in performance.get_array("prices")?.iter() {
+            sum = sum.wrapping_add(price.get_u64("amount")?);
+        }
+    }
+    Some(sum)
+}
+
+#[inline(never)]
+fn amounts_beneath(root: Value<'_, '_>) -> u64 {
+    let mut sum = 0u64;
+    for value in root.descendants::<32>() {
+        if let Some(amount) = value.get_u64("amount") {
+            sum = sum.wrapping_add(amount);
+        }
+    }
+    sum
 }
 
 fn rings<'t, 'd>(root: Value<'t, 'd>) -> Option<Array<'t, 'd>> {

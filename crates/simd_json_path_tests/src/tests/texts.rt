@@ -1,8 +1,10 @@
 // Queries that are read from text; worked ones are in tests/vectors/path.txt.
 use crate::tests::{Tested, assert_path_selects};
 use bumpalo::Bump;
+use linked_list_allocator::LocalHeap;
 use simd_json::to_tape;
-use simd_json_path::{Filter, Path, PathExpected};
+use simd_json_path::{Filter, Path, PathError, PathExpected};
+use std::process::Abort;
 
 #[test]
 fn a_text_selects_what_it_spells(rt: HostRuntime) -> Tested {
@@ -71,5 +73,48 @@ fn a_test_holds_as_it_spells(rt: HostRuntime) -> Tested {
     };
     assert_eq!(rt; error.index, 13);
     assert_eq!(rt; error.expected, PathExpected::End);
+    Ok(())
+}
+
+// Of a test that is asked for at each amount of memory: as far as one is missing that is said, and
+// then there is enough. Returns how often it was missing.
+fn missing(
+    rt: &(impl AllocGlobal + Abort),
+    read: impl Fn(&LocalHeap) -> Result<(), PathError>,
+) -> usize {
+    let mut missing = 0usize;
+    let mut enough = 0usize;
+    for units in 0..300usize {
+        let heap = LocalHeap::new(rt.alloc(), 96 + units * 64).expect(rt, "memory");
+        match read(&heap) {
+            Ok(()) => enough += 1,
+            Err(error) => {
+                assert_eq!(rt; error.expected, PathExpected::Memory);
+                assert_eq!(rt; enough, 0);
+                missing += 1;
+            }
+        }
+    }
+    assert!(rt; enough > 0);
+    missing
+}
+
+#[test]
+fn memory_that_is_missing_is_named(rt: HostRuntime) -> Tested {
+    let test = "@.price < 10 && (@['a\\u0062'][0] || !(@.c == \"d\\n\") || 1 < length(@.e)) \
+        || count(@.f.g) == 1 && value($['h'].i[2]) != 'j' && @.k && @.l && @.m && @.n && @.o";
+    let query = format!(in rt.alloc(); "$.a['b', 1:2, *, \"\\u0063\"]..[?{test}].d[0].e..f")?;
+    let filters = missing(&rt, |heap| {
+        let arena = Bump::new(heap);
+        Filter::new(&arena, test)?;
+        Ok(())
+    });
+    assert!(rt; filters > 8);
+    let paths = missing(&rt, |heap| {
+        let arena = Bump::new(heap);
+        Path::new(&arena, query.as_str())?;
+        Ok(())
+    });
+    assert!(rt; paths >= filters);
     Ok(())
 }

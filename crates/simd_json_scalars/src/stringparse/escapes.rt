@@ -10,6 +10,7 @@ use super::Ends;
 use simd_json_parts::charutils::{codepoint_to_utf8, hex_to_u32_nocheck};
 
 // Decodes the escape at the backslash where reading has arrived.
+#[inline(always)]
 pub(super) fn unescape_one(unread: &mut [u8], ends: Ends) -> Option<Ends>
     requires goes_on { IsOpen unread.old ends.read }
     requires backslash { byte_at unread.old ends.read ≡ backslash }

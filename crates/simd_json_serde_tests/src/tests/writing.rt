@@ -1,16 +1,17 @@
 // Values are written by `simd_json_serde` and by `serde_json`, and read again.
 use crate::tests::types::{Command, Message, Placed, Shape};
 use crate::tests::{MEMORY, read_owned_from};
-use serde::{DeserializeOwned, Serialize};
+use serde::{Described, DeserializeOwned, Serialize, Serializer};
 use simd_json::to_tape;
 use simd_json_serde::{
     WriteError, to_string, to_string_pretty, to_vec, to_vec_pretty, to_writer, to_writer_pretty,
 };
 use std::alloc::Global;
 use std::collections::BTreeMap;
-use std::io;
+use std::fmt::Display;
 use std::io::{ErrorKind, Write};
 use std::process::Abort;
+use std::{fmt, io};
 
 // Each line is a value. Both crates write the same bytes, compact and pretty, which are those of
 // the tape, and are read as the value.
@@ -85,6 +86,38 @@ fn scalars_and_keys_are_written(rt: HostRuntime) {
     assert_written::<BTreeMap<i32, Vec<u8>>>(&rt, alloc, r#"{"-3":[],"0":[4,5]}"#);
     assert_written::<BTreeMap<bool, ()>>(&rt, alloc, r#"{"false":null,"true":null}"#);
     assert_written::<BTreeMap<String, f64>>(&rt, alloc, "{}\n{\"\":1.0,\"\\\"\":2.5}");
+}
+
+// A version, which is written as it prints.
+#[derive(Drop)]
+struct Version {
+    major: u8,
+    minor: u8,
+}
+
+impl Display for Version {
+    fn fmt<W: fmt::Write>(&self, f: &mut fmt::Formatter<W>) -> fmt::Result {
+        write!(f, "\"{}\".{}", self.major, self.minor)
+    }
+}
+
+impl Described for Version {}
+
+impl Serialize for Version {
+    fn serialize<S: Serializer>(&self, out: &mut S) -> Result<(), S::Error> {
+        out.collect_str(self)
+    }
+}
+
+#[test]
+fn printed_values_are_strings(rt: HostRuntime) {
+    let alloc = rt.alloc();
+    let version = Version {
+        major: 12,
+        minor: 0,
+    };
+    let text = to_string(alloc, &version).ok().expect(&rt, MEMORY);
+    assert_eq!(rt; text.as_str(), r#""\"12\".0""#);
 }
 
 // `serde_json` writes null for such a float.

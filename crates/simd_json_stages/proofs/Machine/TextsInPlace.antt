@@ -1,6 +1,9 @@
 -- Texts that lie in the input before an index stay there while later bytes are written.
 use Rattle.std.proofs.Common.{◌≡◌, sym, ◌∙◌, ap, subst, refl, ℕ, ◌+◌, ◌-◌, ◌≤◌, List, [], ◌∷◌, ◌++◌, length, take, drop, get_or, Bool}
-use Rattle.std.proofs.Common.{arith}
+use Rattle.std.proofs.Common.{arith, true, false, nat_le}
+use Rattle.std.proofs.Math.Logic.{∥∥₁_elim}
+use Rattle.std.proofs.Props.{props}
+use Rattle.std.proofs.lemmas.Bool.{cond_both}
 use Rattle.std.proofs.lemmas.Grind.{common_steps}
 use Rattle.std.specs.Prelude.{IsFalse, IsUtf8, slice_set}
 use Rattle.std.proofs.lemmas.List.{drop-drop, drop-take, take-take, get_or-drop, length-drop, length-take-le}
@@ -9,11 +12,17 @@ use Rattle.std.proofs.lemmas.Str.{IsUtf8-nil, is_utf8-from_IsUtf8, IsUtf8-from_i
 use Rattle.std.specs.List.{All}
 use borrow.Rule.Slice.PartMut.{put_mid}
 use Rattle.simd_json_parts.specs.Bytes.{byte_at}
-use Rattle.simd_json_parts.specs.Nodes.{Item}
+use Rattle.simd_json_parts.specs.Derivatives.{matches}
+use Rattle.simd_json_parts.specs.Integers.{integer_node, max_magnitude_64, number_of}
+use Rattle.simd_json_parts.specs.Nodes.{Item, static_item, decimal_item, string_item, array_item, object_item}
+use Rattle.simd_json_parts.specs.Numbers.{has_minus, integer_literal, magnitude}
+use Rattle.simd_json_parts.specs.declared.node.StaticNode.{StaticNode}
+use Rattle.simd_json_parts.specs.declared.node.StaticNode.TheVariants as fixed
 use Rattle.simd_json_stages.specs.Building.{header_of}
 use Rattle.simd_json_stages.specs.EscapesAhead.{AreAhead}
 use Rattle.simd_json_stages.specs.ReadsLater.{ahead-later}
-use Rattle.simd_json_stages.specs.Placed.{AreLaid, LiesBefore, LiesIn, Placed, ReadsInPlace, text_of}
+use Rattle.simd_json_stages.specs.Placed.{AreLaid, IsTextOf, LiesBefore, LiesIn, Placed, ReadsInPlace}
+use Rattle.simd_json_stages.specs.Placed.{is_long, placed_at, textless}
 use Rattle.simd_json_stages.specs.declared.stage2.escapes.Escapes.{Escapes}
 use Rattle.simd_json_stages.specs.declared.stage2.stack.Container.{Container}
 use Rattle.simd_json_stages.specs.declared.stage2.stack.Container.TheVariants.{Array, Object}
@@ -59,7 +68,7 @@ pub laid-later : {bytes : List ℕ} {end later : ℕ} {ps : List Placed} → Are
 laid-later {bytes} {end} {later} {ps} laid l fits = record {
   within = fits;
   each = All-weaker (LiesBefore bytes end) (LiesBefore bytes later)
-      (λ p h. record { before = omega (arith, h.before, l); there = h.there; utf8 = h.utf8 }) ps laid.each;
+      (λ p h. record { before = omega (arith, h.before, l); there = h.there; is_text = h.is_text; utf8 = h.utf8 }) ps laid.each;
 }
 
 -- and after bytes from an index on were written
@@ -68,12 +77,13 @@ pub laid-kept : {old new : List ℕ} {end : ℕ} (at : ℕ) {ps : List Placed} �
 laid-kept {old} {new} {end} at {ps} laid l same size = record {
   within = omega (arith, laid.within, size);
   each = All-weaker (LiesBefore old end) (LiesBefore new end) (λ p h.
-      let n = length (text_of p.item) in
+      let n = length p.text in
       record {
         before = h.before;
         there = sym (drop-take p.at n new) ∙ ap (drop p.at) (sym (take-take (p.at + n) at new (omega (arith, h.before, l))))
             ∙ ap (λ us. drop p.at (take (p.at + n) us)) same ∙ ap (drop p.at) (take-take (p.at + n) at old (omega (arith, h.before, l)))
             ∙ drop-take p.at n old ∙ h.there;
+        is_text = h.is_text;
         utf8 = h.utf8;
       }) ps laid.each;
 }
@@ -95,33 +105,71 @@ laid-set {bytes} {end} {ps} i p laid lies is = record {
 }
 
 -- some bytes that are UTF-8 lie where they are
-pub lies-there : (bytes : List ℕ) (i n end : ℕ) (item : Item) → text_of item ≡ take n (drop i bytes) → i + n ≤ end → end ≤ length bytes
-    → IsUtf8 (take n (drop i bytes)) → LiesBefore bytes end (record { at = i; item = item })
+pub lies-there : (bytes : List ℕ) (i n end : ℕ) (item : Item) → IsTextOf item (take n (drop i bytes)) → i + n ≤ end → end ≤ length bytes
+    → IsUtf8 (take n (drop i bytes)) → LiesBefore bytes end (placed_at i (take n (drop i bytes)) item)
 lies-there bytes i n end item is ends fits utf8 =
-    let size : length (text_of item) ≡ n = ap length is ∙ length-take-le n (drop i bytes)
-    (omega (arith, length-drop i bytes, ends, fits)) in
+    let size : length (take n (drop i bytes)) ≡ n = length-take-le n (drop i bytes) (omega (arith, length-drop i bytes, ends, fits)) in
     record {
       before = omega (arith, size, ends);
-      there = ap (λ k. take k (drop i bytes)) size ∙ sym is;
-      utf8 = is_utf8-from_IsUtf8 _ (subst IsUtf8 (sym is) utf8);
+      there = ap (λ k. take k (drop i bytes)) size;
+      is_text = ∣ is ∣₁;
+      utf8 = is_utf8-from_IsUtf8 _ utf8;
     }
 
 -- a node without a text lies anywhere
-pub no-text : (bytes : List ℕ) (end : ℕ) (item : Item) → text_of item ≡ [] → LiesBefore bytes end (record { at = 0; item = item })
+pub no-text : (bytes : List ℕ) (end : ℕ) (item : Item) → IsTextOf item [] → LiesBefore bytes end (textless item)
 no-text bytes end item none = record {
-  before = omega (arith, ap length none);
-  there = ap (λ us. take (length us) (drop 0 bytes)) none ∙ sym none;
-  utf8 = is_utf8-from_IsUtf8 _ (subst IsUtf8 (sym none) IsUtf8-nil);
+  before = omega arith;
+  there = refl;
+  is_text = ∣ none ∣₁;
+  utf8 = is_utf8-from_IsUtf8 _ IsUtf8-nil;
 }
 
-pub no-header-text : (c : Container) (len count : ℕ) → text_of (header_of c len count) ≡ []
+pub no-header-text : (c : Container) (len count : ℕ) → IsTextOf (header_of c len count) []
 no-header-text Array len count = refl
 no-header-text Object len count = refl
+
+pub no-short-text : (value : StaticNode) → is_long value ≡ false → IsTextOf (static_item value) []
+no-short-text fixed.Null short = refl
+no-short-text (fixed.Bool b) short = refl
+no-short-text (fixed.I64 z) short = refl
+no-short-text (fixed.U64 n) short = refl
+no-short-text (fixed.I128 z) short = absurd (cc short)
+no-short-text (fixed.U128 n) short = absurd (cc short)
+
+-- that of an integer of 128 bits
+long-by : (literal : List ℕ) (minus : Bool) → has_minus literal ≡ minus → matches integer_literal literal ≡ true
+    → is_long (integer_node minus (magnitude literal)) ≡ true → IsTextOf (static_item (integer_node minus (magnitude literal))) literal
+long-by literal true sign matched = cond_both (nat_le (magnitude literal) (max_magnitude_64 true)) _ _
+    (λ s. is_long s ≡ true → IsTextOf (static_item s) literal) (λ _ long. absurd (cc long))
+    (λ _ long. (matched, ap (λ b. number_of b (magnitude literal)) sign))
+long-by literal false sign matched = cond_both (nat_le (magnitude literal) (max_magnitude_64 false)) _ _
+    (λ s. is_long s ≡ true → IsTextOf (static_item s) literal) (λ _ long. absurd (cc long))
+    (λ _ long. (matched, ap (λ b. number_of b (magnitude literal)) sign))
+
+pub long-text : (value : StaticNode) (literal : List ℕ) → is_long value ≡ true → matches integer_literal literal ≡ true
+    → value ≡ integer_node (has_minus literal) (magnitude literal) → IsTextOf (static_item value) literal
+long-text value literal long matched is =
+    subst (λ s. IsTextOf (static_item s) literal) (sym is)
+    (long-by literal (has_minus literal) refl matched (sym (ap is_long is) ∙ long))
+
+IsTextOf-prop : (item : Item) (text : List ℕ) → IsProp (IsTextOf item text)
+IsTextOf-prop (static_item fixed.Null) text = Prim.hlevel props
+IsTextOf-prop (static_item (fixed.Bool b)) text = Prim.hlevel props
+IsTextOf-prop (static_item (fixed.I64 z)) text = Prim.hlevel props
+IsTextOf-prop (static_item (fixed.U64 n)) text = Prim.hlevel props
+IsTextOf-prop (static_item (fixed.I128 z)) text = Prim.hlevel props
+IsTextOf-prop (static_item (fixed.U128 n)) text = Prim.hlevel props
+IsTextOf-prop (decimal_item literal) text = Prim.hlevel props
+IsTextOf-prop (string_item string) text = Prim.hlevel props
+IsTextOf-prop (array_item len count) text = Prim.hlevel props
+IsTextOf-prop (object_item len count) text = Prim.hlevel props
 
 -- in the end
 pub laid-in : {bytes : List ℕ} {end : ℕ} {ps : List Placed} → AreLaid bytes end ps → All (LiesIn bytes) ps
 laid-in {bytes} {end} {ps} laid = All-weaker (LiesBefore bytes end) (LiesIn bytes) (λ p h. record {
   within = omega (arith, h.before, laid.within);
   there = h.there;
+  is_text = ∥∥₁_elim h.is_text (IsTextOf-prop p.item p.text) (λ is. is);
   utf8 = IsUtf8-from_is_utf8 _ h.utf8;
 }) ps laid.each

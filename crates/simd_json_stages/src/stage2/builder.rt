@@ -2,14 +2,15 @@
 //!
 //! The machine names a text by its place in the input, and the builder shares it and hands it on:
 //! so how strings and numbers are kept is the builder's choice alone.
-ghost use Rattle.std.specs.Prelude.{◌≡◌, ◌<◌, ◌≤◌, ◌+◌, ◌^◌, true, ℕ, List, [], ◌∷◌, ◌++◌};
-ghost use Rattle.std.specs.Prelude.{length, get_or, slice_set, take, drop, Err, MatchResult};
+ghost use Rattle.std.specs.Prelude.{◌≡◌, ◌<◌, ◌≤◌, ◌+◌, ◌^◌, true, false, ℕ, List, [], ◌∷◌};
+ghost use Rattle.std.specs.Prelude.{◌++◌, length, get_or, slice_set, take, drop, Err, MatchResult};
 ghost use Rattle.simd_json_parts.specs.Bytes.{byte_at};
 ghost use Rattle.simd_json_parts.specs.Nodes.{Item, static_item, decimal_item};
 ghost use Rattle.simd_json_parts.specs.StringAt.{string_at, escape_fault};
 ghost use Rattle.simd_json_stages.specs.Building.{header_of, is_header};
-ghost use Rattle.simd_json_stages.specs.Inputs.{HasBytes, HasQuoted, HasString, IsStringBefore};
-ghost use Rattle.simd_json_stages.specs.Inputs.{Reads};
+ghost use Rattle.simd_json_stages.specs.Inputs.{HasBytes, HasInteger, HasQuoted, HasString};
+ghost use Rattle.simd_json_stages.specs.Inputs.{IsStringBefore, Reads};
+ghost use Rattle.simd_json_stages.specs.Placed.{is_long};
 ghost use Rattle.simd_json_stages.specs.Put.{IsStringPut};
 ghost use Rattle.simd_json_stages.specs.ReadsLater.{reads-kept};
 
@@ -75,9 +76,19 @@ pub(crate) trait Builder {
             ≡ held_nodes self.old ++ decimal_item (take len (drop at b)) ∷ [] }
         ensures reads { (b : List ℕ) → reads b self.old at → reads b self.new (at + len) };
 
-    // Appends a null, a boolean or an integer.
+    // Appends an integer of any length, whose literal is the `len` bytes from index `at` on.
+    fn push_integer(&mut self, at: usize, len: usize, value: StaticNode)
+        requires room { length (held_nodes self.old) < node_room self.old }
+        requires literal { HasInteger (λ b. reads b self.old) at len value }
+        ensures lender { lender self.new ≡ lender self.old }
+        ensures room { node_room self.new ≡ node_room self.old }
+        ensures put { held_nodes self.new ≡ held_nodes self.old ++ static_item value ∷ [] }
+        ensures reads { (b : List ℕ) → reads b self.old at → reads b self.new (at + len) };
+
+    // Appends a null, a boolean or an integer of 64 bits.
     fn push_static(&mut self, value: StaticNode)
-        requires { length (held_nodes self.old) < node_room self.old }
+        requires room { length (held_nodes self.old) < node_room self.old }
+        requires short { is_long value ≡ false }
         ensures lender { lender self.new ≡ lender self.old }
         ensures room { node_room self.new ≡ node_room self.old }
         ensures put { held_nodes self.new ≡ held_nodes self.old ++ static_item value ∷ [] }
@@ -161,6 +172,11 @@ impl<'n, 'i, 'm, 'de, S: NodeSink<'de>> Builder for Sharing<'n, 'i, 'm, 'de, S> 
     #[inline(always)]
     fn push_decimal(&mut self, at: usize, len: usize) {
         self.nodes.push_decimal(self.input.share(at, len));
+    }
+
+    #[inline(always)]
+    fn push_integer(&mut self, at: usize, len: usize, value: StaticNode) {
+        self.nodes.push_static(value);
     }
 
     #[inline(always)]

@@ -235,7 +235,7 @@ fn push_number<K: Original, B: Builder>(builder: &mut B, p: Progress) -> Result<
         Numeral::Decimal(len) => builder.push_decimal(p.at, len),
         Numeral::Long(len) => {
             let node = read_long(rest, p.at, len)?;
-            builder.push_static(node);
+            builder.push_integer(p.at, len, node);
         }
         Numeral::Invalid(offset) => return Err(invalid_number(rest, p.at, offset)),
     }

@@ -3,7 +3,7 @@
 //!
 //! Such a sink borrows nothing of the input. So after a parse the input is the caller's again, and
 //! what it holds is known: each text at its place.
-ghost use Rattle.std.specs.Prelude.{◌≡◌, ◌<◌, ◌≤◌, ◌+◌, true, ℕ, List, [], ◌∷◌, ◌++◌};
+ghost use Rattle.std.specs.Prelude.{◌≡◌, ◌<◌, ◌≤◌, ◌+◌, true, false, ℕ, List, [], ◌∷◌, ◌++◌};
 ghost use Rattle.std.specs.Prelude.{length, get_or, slice_set, map, take, drop, IsFalse, IsUtf8};
 ghost use Rattle.std.specs.Prelude.{MatchResult};
 ghost use Rattle.std.specs.List.{All};
@@ -14,7 +14,8 @@ ghost use Rattle.simd_json_stages.specs.Building.{header_of, is_header};
 ghost use Rattle.simd_json_stages.specs.EscapesAhead.{PlainFrom};
 ghost use Rattle.simd_json_stages.specs.Inputs.{HasBytes, HasQuoted, IsStringBefore};
 ghost use Rattle.simd_json_stages.specs.Members.{HasCapacity, IsTape};
-ghost use Rattle.simd_json_stages.specs.Placed.{AreLaid, IsDecodedTo, LiesIn, Placed, ReadsInPlace};
+ghost use Rattle.simd_json_stages.specs.Placed.{AreLaid, IsDecodedTo, IsTextOf, LiesIn, Placed};
+ghost use Rattle.simd_json_stages.specs.Placed.{ReadsInPlace, is_long, placed_at, textless};
 ghost use Rattle.simd_json_stages.specs.Progresses.{IsForCopy};
 ghost use Rattle.simd_json_stages.specs.Put.{SameSink};
 ghost use Rattle.simd_json_stages.specs.ReadsLater.{ahead-later};
@@ -37,13 +38,14 @@ use std::result::Result;
 /// keeps no reference to their texts: it is told where each begins in the input.
 ///
 /// After the parse the text lies there, so the owner of the input can borrow it from there: a
-/// string with its escapes decoded, or the literal of a number with a fraction or an exponent. The
-/// calls come in the same order as those of a `NodeSink`.
+/// string with its escapes decoded, or the literal of a number with a fraction or an exponent, or
+/// of an integer that 64 bits do not hold. The calls come in the same order as those of a
+/// `NodeSink`.
 ///
 /// The ghost items say for contracts what a sink holds: `placed` is the list of the nodes that were
-/// appended, each with the byte index of its text; the others are as those of `NodeSink`. A
-/// sink that hands all nodes on has the other's items, as this one, which keeps the place of the
-/// longest string:
+/// appended, each with its text and where that begins; the others are as those of `NodeSink`. A sink
+/// that hands all nodes on has the other's items, as this one, which keeps the place of the longest
+/// string:
 ///
 /// ```
 /// use simd_json_parts::node::StaticNode;
@@ -71,6 +73,9 @@ use std::result::Result;
 ///     }
 ///     fn push_decimal(&mut self, at: usize, literal: &str) {
 ///         self.nodes.push_decimal(at, literal);
+///     }
+///     fn push_long(&mut self, at: usize, literal: &str, value: StaticNode) {
+///         self.nodes.push_long(at, literal, value);
 ///     }
 ///     fn push_static(&mut self, value: StaticNode) {
 ///         self.nodes.push_static(value);
@@ -109,7 +114,7 @@ pub trait SpanSink {
         ensures lender { lender self.new ≡ lender self.old }
         ensures room { node_room self.new ≡ node_room self.old }
         ensures put { placed self.new
-            ≡ placed self.old ++ record { at = at; item = string_item string.now } ∷ [] };
+            ≡ placed self.old ++ placed_at at string.now (string_item string.now) ∷ [] };
 
     /// Appends a number with a fraction or an exponent: its literal, which begins at byte `at`.
     fn push_decimal(&mut self, at: usize, literal: &str)
@@ -117,15 +122,27 @@ pub trait SpanSink {
         ensures lender { lender self.new ≡ lender self.old }
         ensures room { node_room self.new ≡ node_room self.old }
         ensures put { placed self.new
-            ≡ placed self.old ++ record { at = at; item = decimal_item literal.now } ∷ [] };
+            ≡ placed self.old ++ placed_at at literal.now (decimal_item literal.now) ∷ [] };
 
-    /// Appends a null, a boolean or an integer.
-    fn push_static(&mut self, value: StaticNode)
-        requires { length (placed self.old) < node_room self.old }
+    /// Appends an integer that needs 128 bits: its literal, which begins at byte `at`, and its
+    /// value.
+    fn push_long(&mut self, at: usize, literal: &str, value: StaticNode)
+        requires room { length (placed self.old) < node_room self.old }
+        requires long { is_long value ≡ true }
+        requires literal { IsTextOf (static_item value) literal.now }
         ensures lender { lender self.new ≡ lender self.old }
         ensures room { node_room self.new ≡ node_room self.old }
         ensures put { placed self.new
-            ≡ placed self.old ++ record { at = 0; item = static_item value } ∷ [] };
+            ≡ placed self.old ++ placed_at at literal.now (static_item value) ∷ [] };
+
+    /// Appends a null, a boolean or an integer of 64 bits.
+    fn push_static(&mut self, value: StaticNode)
+        requires room { length (placed self.old) < node_room self.old }
+        requires short { is_long value ≡ false }
+        ensures lender { lender self.new ≡ lender self.old }
+        ensures room { node_room self.new ≡ node_room self.old }
+        ensures put { placed self.new
+            ≡ placed self.old ++ textless (static_item value) ∷ [] };
 
     /// Appends the header of a container, with counts of 0.
     fn push_header(&mut self, container: Container)
@@ -133,7 +150,7 @@ pub trait SpanSink {
         ensures lender { lender self.new ≡ lender self.old }
         ensures room { node_room self.new ≡ node_room self.old }
         ensures put { placed self.new
-            ≡ placed self.old ++ record { at = 0; item = header_of container 0 0 } ∷ [] };
+            ≡ placed self.old ++ textless (header_of container 0 0) ∷ [] };
 
     /// Sets the counts of the header at index `header` among the nodes, when its container closes:
     /// it has `len` members, and `count` nodes beneath it. It is not called for an empty container.
@@ -144,7 +161,7 @@ pub trait SpanSink {
         ensures lender { lender self.new ≡ lender self.old }
         ensures room { node_room self.new ≡ node_room self.old }
         ensures patched { placed self.new ≡ slice_set (placed self.old) header
-            (record { at = 0; item = header_of container len count }) };
+            (textless (header_of container len count)) };
 }
 
 // Appends the nodes of the tokens at the structural indexes to a sink, as `build_copy` does.
@@ -242,10 +259,8 @@ fn hand_string<S: SpanSink>(nodes: &mut S, bytes: &mut [u8], at: usize, len: usi
     requires utf8 { IsUtf8 (take len (drop at bytes.old)) }
     ensures sink { SameSink S.node_room S.lender nodes.old nodes.new }
     ensures bytes { bytes.new ≡ bytes.old }
-    ensures put { S.placed nodes.new ≡ S.placed nodes.old ++ record {
-      at = at;
-      item = string_item (take len (drop at bytes.old));
-    } ∷ [] }
+    ensures put { S.placed nodes.new ≡ S.placed nodes.old ++ placed_at at
+        (take len (drop at bytes.old)) (string_item (take len (drop at bytes.old))) ∷ [] }
 {
     let string = unsafe { str::from_utf8_unchecked(&bytes[at..at + len]) };
     nodes.push_string(at, string);
@@ -259,13 +274,35 @@ fn hand_decimal<S: SpanSink>(nodes: &mut S, bytes: &mut [u8], at: usize, len: us
     requires utf8 { IsUtf8 (take len (drop at bytes.old)) }
     ensures sink { SameSink S.node_room S.lender nodes.old nodes.new }
     ensures bytes { bytes.new ≡ bytes.old }
-    ensures put { S.placed nodes.new ≡ S.placed nodes.old ++ record {
-      at = at;
-      item = decimal_item (take len (drop at bytes.old));
-    } ∷ [] }
+    ensures put { S.placed nodes.new ≡ S.placed nodes.old ++ placed_at at
+        (take len (drop at bytes.old)) (decimal_item (take len (drop at bytes.old))) ∷ [] }
 {
     let literal = unsafe { str::from_utf8_unchecked(&bytes[at..at + len]) };
     nodes.push_decimal(at, literal);
+}
+
+// The same as an integer of 128 bits.
+#[inline(always)]
+fn hand_long<S: SpanSink>(nodes: &mut S, bytes: &mut [u8], at: usize, len: usize, value: StaticNode)
+    requires room { length (S.placed nodes.old) < S.node_room nodes.old }
+    requires within { at + len ≤ length bytes.old }
+    requires utf8 { IsUtf8 (take len (drop at bytes.old)) }
+    requires long { is_long value ≡ true }
+    requires literal { IsTextOf (static_item value) (take len (drop at bytes.old)) }
+    ensures sink { SameSink S.node_room S.lender nodes.old nodes.new }
+    ensures bytes { bytes.new ≡ bytes.old }
+    ensures put { S.placed nodes.new ≡ S.placed nodes.old
+        ++ placed_at at (take len (drop at bytes.old)) (static_item value) ∷ [] }
+{
+    let literal = unsafe { str::from_utf8_unchecked(&bytes[at..at + len]) };
+    nodes.push_long(at, literal, value);
+}
+
+// Whether 64 bits do not hold an integer.
+fn is_long(value: &StaticNode) -> bool
+    ensures { result ≡ is_long value.now }
+{
+    matches!(value, StaticNode::I128(_) | StaticNode::U128(_))
 }
 
 // Decodes in place the string whose opening quote has index `at`, and appends it. Returns the index
@@ -346,6 +383,17 @@ impl<'n, 'm, 'b, S: SpanSink> Builder for InPlace<'n, 'm, 'b, S> {
     fn push_decimal(&mut self, at: usize, len: usize) {
         self.at = at + len;
         hand_decimal(self.nodes, self.bytes, at, len);
+    }
+
+    #[cold]
+    #[inline(never)]
+    fn push_integer(&mut self, at: usize, len: usize, value: StaticNode) {
+        if is_long(&value) {
+            self.at = at + len;
+            hand_long(self.nodes, self.bytes, at, len, value);
+        } else {
+            self.nodes.push_static(value);
+        }
     }
 
     #[inline(always)]

@@ -159,6 +159,10 @@ mod sinks {
             self.nodes.push_decimal(at, literal);
         }
 
+        fn push_long(&mut self, at: usize, literal: &str, value: StaticNode) {
+            self.nodes.push_long(at, literal, value);
+        }
+
         fn push_static(&mut self, value: StaticNode) {
             self.nodes.push_static(value);
         }

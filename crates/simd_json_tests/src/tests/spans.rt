@@ -64,6 +64,10 @@ impl SpanSink for SpanList {
         self.put(Node::Decimal(""), at, literal.len());
     }
 
+    fn push_long(&mut self, at: usize, literal: &str, value: StaticNode) {
+        self.put(Node::Static(value), at, literal.len());
+    }
+
     fn push_static(&mut self, value: StaticNode) {
         self.put(Node::Static(value), 0, 0);
     }
@@ -179,6 +183,40 @@ fn texts_before_an_error_lie_in_the_input(rt: HostRuntime) -> Tested {
     assert_eq!(rt; &input[2..4], b"AB".as_slice());
     assert_eq!(rt; (decimal.at, decimal.len), (11, 3));
     assert_eq!(rt; &input[11..14], b"1.5".as_slice());
+    Ok(())
+}
+
+// Integers beyond 64 bits have their literal, others none.
+#[test]
+fn long_integers_lie_in_the_input(rt: HostRuntime) -> Tested {
+    let mut input = *b"[-9223372036854775809, 18446744073709551616,-9223372036854775808,\
+        18446744073709551615]";
+    let mut buffers = Buffers::new(rt.alloc(), 0)?;
+    let mut sink = empty_list(&rt);
+    assert_eq!(rt; fill_spans(&mut input, &mut buffers, &mut sink), Ok(()));
+    let expected = [
+        Span {
+            node: Node::Static(StaticNode::I128(-9223372036854775809)),
+            at: 1,
+            len: 20,
+        },
+        Span {
+            node: Node::Static(StaticNode::U128(18446744073709551616)),
+            at: 23,
+            len: 20,
+        },
+        Span {
+            node: Node::Static(StaticNode::I64(i64::MIN)),
+            at: 0,
+            len: 0,
+        },
+        Span {
+            node: Node::Static(StaticNode::U64(u64::MAX)),
+            at: 0,
+            len: 0,
+        },
+    ];
+    assert_eq!(rt; &sink.list[1..], expected.as_slice());
     Ok(())
 }
 

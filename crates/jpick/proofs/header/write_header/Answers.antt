@@ -9,12 +9,16 @@ use Rattle.jsonl.specs.declared.failure.Failure.{Failure}
 use Rattle.jsonl.specs.declared.failure.Failure.TheVariants.{Resources}
 use Rattle.jpick.specs.Rows.{row}
 use Rattle.jpick.specs.Runs.{header_fault}
+use Rattle.jpick.proofs.Enough.{room-for-header}
 use Rattle.jpick.proofs.header.write_header.Goals as goal
 
 short-of-memory : (q : Result Unit Failure) (failed closed : Bool) (P Q : Type 0) → IsErrAnd q (λ e. e ≡ Resources) → failed ≡ false → Q
     → MatchResult q (λ _. (failed ≡ false) × P) (λ failure. (failure ≡ header_fault closed failed) × Q)
 short-of-memory (Ok u) failed closed P Q is sound left = absurd is
 short-of-memory (Err e) failed closed P Q is sound left = (is ∙ ap (header_fault closed) (sym sound), left)
+
+pub append_row-requires : goal.append_row-requires
+append_row-requires g c = room-for-header c.args.wanted.now.queries.now 0
 
 pub returns-in_err-append_row : goal.returns-in_err-append_row
 returns-in_err-append_row g c =

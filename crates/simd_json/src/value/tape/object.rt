@@ -39,9 +39,10 @@ impl<'tape, 'input> Object<'tape, 'input> {
         self.find(k)
     }
 
-    // The same, inlined: a step of a JSON Pointer then costs no more than a call of `get`.
+    /// The same as [`get`](Object::get), inlined where it is called, for a look-up in each of many
+    /// objects: the call itself costs as much as a short look-up.
     #[inline(always)]
-    pub(crate) fn find(&self, k: &str) -> Option<Value<'tape, 'input>>
+    pub fn find(&self, k: &str) -> Option<Value<'tape, 'input>>
         ensures { option_map doc result ≡ first_with k.now (pairs self.now) }
     {
         for (key, value) in self.iter() {

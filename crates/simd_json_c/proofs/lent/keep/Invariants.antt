@@ -3,5 +3,4 @@ use Rattle.std.specs.Vec.{vec_capacity}
 use Rattle.simd_json_c.proofs.lent.keep.Given as goal
 
 abbrev pub ghost-of : goal.ghost-of
-ghost-of g a =
-    record { items = []; text_before = a.seen.now.1.now.items; node_capacity = vec_capacity a.seen.now.0.now }
+ghost-of a = record { placed = []; node_capacity = vec_capacity a.seen.now.now }

@@ -11,5 +11,5 @@ returns-in-Some c =
     let s = c.parse-outcome.ensures in
     let told = c.reported.ensures in
     rw to_z-of_z
-    (parsed-with _ _ _ _ _ c.parse-outcome.result _ _ _ _ (was, c.open.ensures, s.kept) (told.place, told.status)
+    (parsed-with _ _ _ _ _ _ _ c.parse-outcome.result _ _ _ _ (was, c.open.ensures, s.kept) (told.place, told.status)
     s.lent s.rejected)

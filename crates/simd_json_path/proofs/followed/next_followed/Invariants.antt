@@ -5,8 +5,10 @@ use Rattle.simd_json_path.specs.Paths.{followed}
 use Rattle.simd_json_path.proofs.followed.next_followed.Given as goal
 
 abbrev pub invariant-opened : goal.invariant-opened
-invariant-opened l =
-    followed l.steps (opened_left (doc l.root) l.opened) ≡ followed l.fn.steps (opened_left (doc l.fn.root) l.fn.opened)
+invariant-opened l = record {
+  left : followed l.steps (opened_left (doc l.root) l.opened) ≡ followed l.fn.steps (opened_left (doc l.fn.root) l.fn.opened);
+  value : l.opened.value ≡ l.fn.opened.value;
+}
 
 abbrev pub decreases-opened : goal.decreases-opened
 decreases-opened l = length (opened_left (doc l.root) l.opened)

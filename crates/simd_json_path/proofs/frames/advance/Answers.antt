@@ -1,7 +1,8 @@
-use Rattle.std.proofs.Common.{◌≡◌, ◌∙◌, ap, sym, refl, ◌+◌, ◌-◌, ◌∷◌, ◌++◌, suc, length, take, arith}
+use Rattle.std.proofs.Common.{◌≡◌, ◌∙◌, ap, sym, refl, ◌+◌, ◌-◌, ◌∷◌, ◌++◌, suc, length, map, take, arith}
 use Rattle.std.proofs.Common.{Some, None}
 use Rattle.simd_json.specs.Viewed.{doc}
 use Rattle.simd_json_path.specs.Frames.{frames_effort, frames_left}
+use Rattle.simd_json_path.specs.Leaves.{leaf_left}
 use Rattle.simd_json_path.specs.Room.{selected_in}
 use Rattle.simd_json_path.proofs.Stacks.{selected-here, selected-scalar, selected-full, effort-some, same-place}
 use Rattle.simd_json_path.proofs.frames.advance.Goals as goal
@@ -33,6 +34,7 @@ frames-preserved-in_default c =
     let size : length old ≡ n - 1 + suc room = omega arith in
     let last : n ≡ n - 1 + 1 = omega arith in
     record {
+      none = c.frames.invariant.none;
       within = omega arith;
       left = same-place (frames_left root) (length new) (n - 1 + suc room) (n - 1) (n - 1) new (kept ∙ size) refl
           ∙ sym (c.in_default.ensures.left room)
@@ -58,7 +60,8 @@ returns-then-is_empty-clause-left c =
     ∙ c.in-Some.ensures.left room
     ∙ ap (λ xs. xs ++ frames_left root (n - 1 + suc room) (take (n - 1 + 1) new)) here
     ∙ ap (λ xs. Some (doc c.in-Some.value) ∷ xs)
-    (sym (same-place (frames_left root) (length new) (n - 1 + suc room) n (n - 1 + 1) new (kept ∙ size) last))
+    (sym (same-place (frames_left root) (length new) (n - 1 + suc room) n (n - 1 + 1) new (kept ∙ size) last)
+    ∙ sym (ap (λ xs. map Some xs ++ frames_left root (length new) (take n new)) c.frames.invariant.none))
 
 -- ---- or a scalar, of which nothing is selected
 
@@ -90,6 +93,7 @@ frames-preserved-then-not-is_container c =
     let none = selected-scalar root room c.in-Some.segments.now (doc c.in-Some.value)
     (sym c.is_empty.ensures ∙ c.if-is_empty.false) (sym c.is_container.ensures ∙ c.if-not-is_container.true) in
     record {
+      none = c.frames.invariant.none;
       within = omega arith;
       left = same-place (frames_left root) (length new) (n - 1 + suc room) n (n - 1 + 1) new (kept ∙ size) last
           ∙ sym (ap (λ xs. xs ++ frames_left root (n - 1 + suc room) (take (n - 1 + 1) new)) none)
@@ -116,7 +120,8 @@ returns-then-opened-frames-clause-left c =
     ∙ c.in-Some.ensures.left 0
     ∙ ap (λ xs. xs ++ frames_left root (n - 1 + suc 0) (take (n - 1 + 1) new)) full
     ∙ ap (λ xs. None ∷ xs)
-    (sym (same-place (frames_left root) (length new) (n - 1 + suc 0) n (n - 1 + 1) new (kept ∙ size) last))
+    (sym (same-place (frames_left root) (length new) (n - 1 + suc 0) n (n - 1 + 1) new (kept ∙ size) last)
+    ∙ sym (ap (λ xs. map Some xs ++ frames_left root (length new) (take n new)) c.frames.invariant.none))
 
 -- ---- or one that is opened
 
@@ -155,11 +160,68 @@ frames-preserved c =
     let last : n ≡ n - 1 + 1 = omega arith in
     let found = selected_in root (suc room) c.in-Some.segments.now (doc c.in-Some.value) in
     record {
+      none = c.frames.invariant.none;
       within = omega arith;
       left = same-place (frames_left root) (length more) (n + suc room) (n + 1) (n + 1) more size2 refl
           ∙ c.enter.ensures.left root room
           ∙ ap (λ xs. found ++ xs)
           (sym (same-place (frames_left root) (n - 1 + suc (suc room)) (n + suc room) (n - 1 + 1) n new same (sym last)))
+          ∙ sym (c.in-Some.ensures.left (suc room))
+          ∙ sym (same-place (frames_left root) (length old) (n - 1 + suc (suc room)) n (n - 1 + 1) old size last)
+          ∙ c.frames.invariant.left;
+    }
+
+-- ---- or one of which the leaf has all
+
+pub returns-in-Some-next-clause-left : goal.returns-in-Some-next-clause-left
+returns-in-Some-next-clause-left c =
+    let root = doc c.args.root in
+    let n = c.frames.opened in
+    let old = c.frames.frames in
+    let new = c.step.new.frames in
+    let room = length old - n - 1 in
+    let kept : length new ≡ length old = c.step.auto.frames in
+    let size : length old ≡ n - 1 + suc (suc room) = omega arith in
+    let last : n ≡ n - 1 + 1 = omega arith in
+    let found = c.in-Some-of.ensures root room ∙ ap (λ xs. map Some xs) c.in-Some-next.ensures in
+    sym c.frames.invariant.left
+    ∙ same-place (frames_left root) (length old) (n - 1 + suc (suc room)) n (n - 1 + 1) old size last
+    ∙ c.in-Some.ensures.left (suc room)
+    ∙ ap (λ xs. xs ++ frames_left root (n - 1 + suc (suc room)) (take (n - 1 + 1) new)) found
+    ∙ ap (λ xs. Some (doc c.in-Some-next.value) ∷ (map Some (leaf_left c.next.new.self) ++ xs))
+    (sym (same-place (frames_left root) (length new) (n - 1 + suc (suc room)) n (n - 1 + 1) new (kept ∙ size) last))
+
+pub frames-smaller-in-Some-of : goal.frames-smaller-in-Some-of
+frames-smaller-in-Some-of c =
+    let root = doc c.args.root in
+    let n = c.frames.opened in
+    let old = c.frames.frames in
+    let new = c.step.new.frames in
+    let room = length old - n in
+    let kept : length new ≡ length old = c.step.auto.frames in
+    let size : length old ≡ n - 1 + suc room = omega arith in
+    let last : n ≡ n - 1 + 1 = omega arith in
+    let some = effort-some root room c.in-Some.segments.now (doc c.in-Some.value) in
+    let before = same-place (frames_effort root) (length old) (n - 1 + suc room) n (n - 1 + 1) old size last in
+    let after = same-place (frames_effort root) (length new) (n - 1 + suc room) n (n - 1 + 1) new (kept ∙ size) last in
+    omega (arith, before, after, some, c.in-Some.ensures.effort room)
+
+pub frames-preserved-in-Some-of : goal.frames-preserved-in-Some-of
+frames-preserved-in-Some-of c =
+    let root = doc c.args.root in
+    let n = c.frames.opened in
+    let old = c.frames.frames in
+    let new = c.step.new.frames in
+    let room = length old - n - 1 in
+    let kept : length new ≡ length old = c.step.auto.frames in
+    let size : length old ≡ n - 1 + suc (suc room) = omega arith in
+    let last : n ≡ n - 1 + 1 = omega arith in
+    let none = c.in-Some-of.ensures root room ∙ ap (λ xs. map Some xs) c.in_default-next.ensures.0 in
+    record {
+      none = c.in_default-next.ensures.1;
+      within = omega arith;
+      left = same-place (frames_left root) (length new) (n - 1 + suc (suc room)) n (n - 1 + 1) new (kept ∙ size) last
+          ∙ sym (ap (λ xs. xs ++ frames_left root (n - 1 + suc (suc room)) (take (n - 1 + 1) new)) none)
           ∙ sym (c.in-Some.ensures.left (suc room))
           ∙ sym (same-place (frames_left root) (length old) (n - 1 + suc (suc room)) n (n - 1 + 1) old size last)
           ∙ c.frames.invariant.left;

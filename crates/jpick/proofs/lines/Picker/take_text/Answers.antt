@@ -1,4 +1,4 @@
-use Rattle.std.proofs.Common.{◌≡◌, ◌∙◌, ◌++◌, ap, refl, rules, subst, sym, List, ℕ}
+use Rattle.std.proofs.Common.{◌≡◌, ◌∙◌, ◌++◌, ap, arith, refl, rules, subst, sym, List, ℕ}
 use Rattle.std.specs.Prelude.{IfNone, Option, Some}
 use Rattle.std.specs.Result.{result_err}
 use Rattle.simd_json.specs.Parsed.{HasMemory, IsParsed}
@@ -7,13 +7,22 @@ use Rattle.jpick.specs.Picked.{Picked, with_answer}
 use Rattle.jpick.specs.Runs.{Shows}
 use Rattle.jpick.specs.declared.fields.Wanted.{Wanted}
 use Rattle.jpick.specs.declared.lines.Picker.{Picker}
-use Rattle.jpick.proofs.Answered.{answered, has-memory, rejected-text}
+use Rattle.jpick.proofs.Answered.{answered, has-memory, nested-within, rejected-text}
 use Rattle.jpick.proofs.Shown.{begins-rejected, begins-text, named-as, picked-over, rejected-over}
 use Rattle.jpick.proofs.Shown.{shows-parsed, shows-picked, shows-rejected}
 use Rattle.jsonl.proofs.Calls.{handed-on}
 use Rattle.jsonl.specs.Failures.{Begins, name_fault}
 use Rattle.jpick.proofs.lines.Picker.take_text.Goals as goal
 use Rattle.jpick.proofs.lines.Picker.take_text.Goals.{in-Ok+in_ok-pick-in-Ok, in-Err+in_ok-reject-in-Err}
+
+pub pick-requires : goal.pick-requires
+pick-requires g c =
+    let text = c.args.text.now in
+    let limit = c.args.self.now.buffers.limit in
+    let nodes = c.refill_tape-answer.result.1.nodes in
+    let parsed = subst (λ r. IfNone (result_err r) (IsParsed text limit nodes)) c.in-Ok.is c.refill_tape-answer.ensures.parse.parsed in
+    let within = nested-within text limit nodes (doc c.as_value.result) parsed c.as_value.ensures in
+    omega (arith, within, c.refill_tape-answer.ensures.limit)
 
 pub returns-in_err-extend_from_slice : goal.returns-in_err-extend_from_slice
 returns-in_err-extend_from_slice g c = λ sound.

@@ -1,11 +1,9 @@
-use Rattle.std.proofs.Common.{sym, subst, ◌∙◌, ap, ◌+◌, ◌≤◌, [], ◌∷◌, length, arith}
-use Rattle.simd_json_parts.specs.Document.{integer}
-use Rattle.simd_json_parts.specs.Tokens.{scalar}
-use Rattle.simd_json_parts.specs.Nodes.{static_item}
+use Rattle.std.proofs.Common.{sym, subst, ◌≤◌, length, arith}
 use Rattle.simd_json_scalars.specs.NumeralRead.{IsNumeralAt}
 use Rattle.simd_json_stages.specs.Put.{IsNoScalar}
 use Rattle.simd_json_stages.proofs.Exits.{passed-on}
-use Rattle.simd_json_stages.proofs.Machine.ScalarPut.{decimal-asked, decimal-put, offset-within, number-rejected, static-put}
+use Rattle.simd_json_stages.proofs.Machine.ScalarPut.{decimal-asked, decimal-put, integer-asked, integer-put, offset-within}
+use Rattle.simd_json_stages.proofs.Machine.ScalarPut.{number-rejected}
 use Rattle.simd_json_stages.proofs.stage2.scalar.push_number.Goals as goal
 use Rattle.simd_json_stages.proofs.stage2.scalar.push_number.Goals.{in-Some, in-None}
 
@@ -52,12 +50,19 @@ returns-in_err-node-in-Long-clause-rejected g c =
     passed-on c.from_residual.result _ (IsNoScalar b c.args.p.at) c.from_residual.ensures.1
     (number-rejected b c.args.p.at read.0 _ given.form read.1 read.2)
 
+pub push_integer-requires-clause-literal : goal.push_integer-requires-clause-literal
+push_integer-requires-clause-literal g c =
+    let b = g.K.Original.bytes in
+    let given = c.requires in
+    let after = sym (c.from-rest.ensures.bytes b given.at.input) in
+    integer-asked (λ b. g.B.Builder.reads b c.args.builder.now) given c.in_ok-node-in-Long.node c.in-Long.len
+    (c.in_ok-node-in-Long.ensures b after (omega (arith, given.at.within)))
+
 pub returns-in_ok-node-in-Long-clause-put : goal.returns-in_ok-node-in-Long-clause-put
 returns-in_ok-node-in-Long-clause-put g c =
     let b = g.K.Original.bytes in
     let given = c.requires in
     let after = sym (c.from-rest.ensures.bytes b given.at.input) in
-    let read = c.in_ok-node-in-Long.ensures b after (omega (arith, given.at.within)) in
-    static-put (integer read.0 read.1) c.in_ok-node-in-Long.node (c.args.p.at + c.in-Long.len)
-    (c.push_static-in-Long.ensures.reads b _ given.at.input)
-    (given.form ∙ ap scalar read.2) (ap (λ s. static_item s ∷ []) (sym read.3)) c.push_static-in-Long.ensures.put
+    integer-put (λ b. g.B.Builder.reads b c.args.builder.now) given c.in_ok-node-in-Long.node c.in-Long.len
+    (c.in_ok-node-in-Long.ensures b after (omega (arith, given.at.within)))
+    c.push_integer.ensures.put (c.push_integer.ensures.reads b given.at.input)

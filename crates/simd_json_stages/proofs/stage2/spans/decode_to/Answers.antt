@@ -2,6 +2,7 @@ use Rattle.std.proofs.Common.{◌≡◌, ◌∙◌, ap, sym, subst, ◌+◌, ◌
 use Rattle.std.specs.Prelude.{IsUtf8}
 use Rattle.std.proofs.lemmas.List.{drop-drop, length-drop, length-take-le, take_rest}
 use Rattle.simd_json_parts.specs.Nodes.{string_item}
+use Rattle.simd_json_stages.specs.Placed.{placed_at}
 use Rattle.simd_json_stages.proofs.Machine.TextsInPlace.{drop-part}
 use Rattle.simd_json_stages.proofs.stage2.spans.decode_to.Goals as goal
 
@@ -32,8 +33,8 @@ returns-in-Ok-clause-decoded g c b is =
     record {
       string = take (end - 1) (drop 1 new);
       read = d.string;
-      put = c.hand_string.ensures.put ∙ ap (λ us. g.S.SpanSink.placed c.args.nodes.now ++ record { at = at + 1; item = string_item us }
-          ∷ [])
+      put = c.hand_string.ensures.put
+          ∙ ap (λ us. g.S.SpanSink.placed c.args.nodes.now ++ placed_at (at + 1) us (string_item us) ∷ [])
           (ap (λ us. take (end - 1) (drop (at + 1) us)) (sym c.hand_string.ensures.bytes) ∙ text);
       there = ap (λ n. take n (drop (at + 1) after)) size ∙ text;
       utf8 = d.utf8;

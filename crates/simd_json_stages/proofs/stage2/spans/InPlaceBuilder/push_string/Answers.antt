@@ -107,7 +107,7 @@ invariant_of-self-in-Ok g c =
     record {
       laid = laid-more _ (laid-later (laid-kept c.args.at self.laid q.reads.before c.in-Ok.ensures.before c.decode_to.auto.bytes)
           (omega (arith, q.reads.before, d.before)) d.within)
-          (record { before = d.before; there = d.there; utf8 = is_utf8-from_IsUtf8 _ d.utf8 }) d.put;
+          (record { before = d.before; there = d.there; is_text = ∣ refl ∣₁; utf8 = is_utf8-from_IsUtf8 _ d.utf8 }) d.put;
     }
 
 pub invariant_of-self-in-Err-1 : goal.invariant_of-self-in-Err-1

@@ -1,0 +1,15 @@
+use Rattle.std.proofs.Common.{◌≡◌, ◌++◌, List, Some, flat_map, length, map}
+use Rattle.simd_json.specs.Viewed.{doc}
+use Rattle.simd_json_parts.specs.Document.{Document}
+use Rattle.simd_json_path.specs.Left.{selected_left}
+use Rattle.simd_json_path.specs.Paths.{selected}
+use Rattle.jpick.specs.Rows.{value_row}
+use Rattle.jpick.proofs.rows.append_value_rows.Given as goal
+
+abbrev pub invariant-values : goal.invariant-values
+invariant-values g l = (rest : List Document) × (selected_left l.values ≡ map Some rest)
+    × (l.rows.items ++ flat_map (value_row l.fn.wanted) rest
+    ≡ l.fn.rows.items ++ flat_map (value_row l.fn.wanted) (selected l.fn.path (doc l.fn.value)))
+
+abbrev pub decreases-values : goal.decreases-values
+decreases-values g l = length (selected_left l.values)

@@ -1,0 +1,111 @@
+//! What selects values of a document.
+ghost use Rattle.std.specs.Prelude.{◌≡◌, ◌≤◌, ◌-◌, ◌^◌, length, min, true, option_map};
+ghost use Rattle.std.specs.List.{list_all};
+ghost use Rattle.simd_json.specs.Viewed.{doc};
+ghost use Rattle.simd_json_parts.specs.Limits.{depth};
+ghost use Rattle.simd_json_path.specs.Paths.{selected};
+ghost use Rattle.simd_json_path.specs.Room.{frames_for};
+ghost use Rattle.jpick.specs.Queries.{first, frames_of, has_frames, is_single, is_singular};
+ghost use Rattle.jpick.specs.Queries.{is_singular_segment, selected_by, text_of};
+
+use simd_json::tape::Value;
+use simd_json_path::{Frame, Path, Segment, Selector};
+
+/// What selects values of a document.
+#[derive(Clone, Copy)]
+pub enum Query<'a> {
+    /// A JSON Pointer (RFC 6901): the value that it names.
+    Pointer(&'a str),
+    /// A JSONPath (RFC 9535): the values that it selects. The header names it by its text.
+    Path(&'a str, Path<'a>),
+}
+
+impl<'a> Query<'a> {
+    /// What the header names it by.
+    pub fn text(&self) -> &'a str
+        ensures { result.now ≡ text_of self.now }
+    {
+        match *self {
+            Query::Pointer(pointer) => pointer,
+            Query::Path(text, _) => text,
+        }
+    }
+
+    // Whether it selects at most one value of any document, by its form: it is a JSON Pointer, or
+    // each segment has one name or one index.
+    pub(crate) fn is_singular(&self) -> bool
+        ensures { result ≡ is_singular self.now }
+    {
+        match self {
+            Query::Pointer(_) => true,
+            Query::Path(_, path) => are_singular(path.segments),
+        }
+    }
+
+    // How many frames suffice for a document in which so many arrays and objects are nested.
+    fn frames(&self, depth: usize) -> usize
+        ensures { result ≡ min (frames_of self.now depth) (2 ^ 64 - 1) }
+    {
+        match self {
+            Query::Pointer(_) => 0,
+            Query::Path(_, path) => path.frames(depth),
+        }
+    }
+
+    // The first value that it selects.
+    pub(crate) fn first<'t, 'i>(
+        &self,
+        value: Value<'t, 'i>,
+        frames: &mut [Frame<'a, 't, 'i>],
+    ) -> Option<Value<'t, 'i>>
+        requires { frames_of self.now (depth (doc value)) ≤ length frames.old }
+        ensures { option_map doc result ≡ first (selected_by self.now (doc value.entry)) }
+    {
+        match self {
+            Query::Pointer(pointer) => value.pointer(*pointer),
+            Query::Path(_, path) => first_of(path, value, frames),
+        }
+    }
+}
+
+fn first_of<'q, 't, 'i>(
+    path: &Path<'q>,
+    value: Value<'t, 'i>,
+    frames: &mut [Frame<'q, 't, 'i>],
+) -> Option<Value<'t, 'i>>
+    requires { frames_for path.now (depth (doc value)) ≤ length frames.old }
+    ensures { option_map doc result ≡ first (selected path.now (doc value.entry)) }
+{
+    path.select(&value, frames).next()?.ok()
+}
+
+// Whether each has one name or one index, of the children.
+pub(crate) fn are_singular(segments: &[Segment<'_>]) -> bool
+    ensures { result ≡ list_all is_singular_segment segments.now }
+{
+    for segment in segments {
+        if segment.is_descendant || !is_single(segment.selectors) {
+            return false;
+        }
+    }
+    true
+}
+
+// Whether it is one name or one index.
+fn is_single(selectors: &[Selector<'_>]) -> bool
+    ensures { result ≡ is_single selectors.now }
+{
+    matches!(selectors, [Selector::Name(_)] | [Selector::Index(_)])
+}
+
+/// How many frames suffice for each query, in a document in which so many arrays and objects are
+/// nested. It is `usize::MAX` where it would be more.
+pub fn frames(queries: &[Query<'_>], depth: usize) -> usize
+    ensures { list_all (has_frames result depth) queries.now ≡ true }
+{
+    let mut most = 0usize;
+    for query in queries {
+        most = most.max(query.frames(depth));
+    }
+    most
+}

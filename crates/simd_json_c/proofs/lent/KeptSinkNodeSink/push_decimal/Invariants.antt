@@ -1,6 +1,0 @@
-use Rattle.simd_json_parts.specs.Nodes.{decimal_item}
-use Rattle.simd_json_c.specs.Loans.{noting}
-use Rattle.simd_json_c.proofs.lent.KeptSinkNodeSink.push_decimal.Given as goal
-
-abbrev pub ghost-of : goal.ghost-of
-ghost-of a = noting a.seen.now.0.now.note (decimal_item a.seen.now.1.now)

@@ -1,7 +1,0 @@
-use Rattle.std.proofs.Common.{◌≡◌, drop}
-use Rattle.simd_json.specs.Viewed.{doc}
-use Rattle.simd_json_path.specs.Filters.{at_steps}
-use Rattle.simd_json_path.proofs.filter.follow.Given as goal
-
-abbrev pub invariant-loop-step : goal.invariant-loop-step
-invariant-loop-step l = at_steps (drop l.step-index l.steps) (doc l.reached) ≡ at_steps l.fn.steps (doc l.fn.node)

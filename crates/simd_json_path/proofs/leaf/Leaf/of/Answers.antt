@@ -1,0 +1,10 @@
+use Rattle.std.proofs.Common.{◌∙◌, sym}
+use Rattle.simd_json.specs.Viewed.{doc}
+use Rattle.simd_json_path.proofs.Visits.{wildcard-left}
+use Rattle.simd_json_path.proofs.leaf.Leaf.of.Goals as goal
+
+pub returns-then-is_wildcard : goal.returns-then-is_wildcard
+returns-then-is_wildcard c root room =
+    wildcard-left root room c.args.segments.now c.in_ok-segment.segment.now c.in_ok-segment.others.now (doc c.args.value) _
+    c.in_ok-segment.ensures.cases.0 (sym c.is_empty.ensures ∙ c.if-is_empty.true) c.if-not-segment.true
+    (sym c.is_wildcard.ensures ∙ c.if-is_wildcard.true) c.of.ensures

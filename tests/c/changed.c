@@ -1,0 +1,125 @@
+// Callers that change, move or unmap an input while they use its nodes. Nodes and counts stay, nothing is read outside what is
+// passed, and the parser does not look at an input again after its call. Silent where all is well.
+#define _GNU_SOURCE
+#include <simd_json.h>
+#include <stdio.h>
+#include <stdlib.h>
+#include <string.h>
+#include <sys/mman.h>
+
+#define WANT(condition)                                                \
+    do {                                                               \
+        if (!(condition)) printf("changed.c:%d: %s\n", __LINE__, #condition), exit(1); \
+    } while (0)
+
+enum { PAGE = 4096 };
+
+static const char document[] =
+    "{\"a\\n\":[1,-2.5e1,\"\\u00e9\\ud83d\\ude00\",18446744073709551616],\"\":{\"c/~\":\"x\"},\"b\":[[],{},null]}";
+enum { LEN = sizeof document - 1, NODES = 16 };
+static const char *const pointers[] = {"", "/a\n/2", "//c~1~0", "/b/1", "/b/9", "/c", "a", "/b/~2"};
+enum { POINTERS = sizeof pointers / sizeof *pointers };
+// Where they lead, counted by hand.
+static const size_t led[POINTERS] = {0, 5, 10, 14, SIMD_JSON_NO_NODE, SIMD_JSON_NO_NODE, SIMD_JSON_NO_NODE, SIMD_JSON_NO_NODE};
+
+static simd_json_parser parser;
+
+static char *map(void) {
+    char *page = mmap(0, PAGE, PROT_READ | PROT_WRITE, MAP_PRIVATE | MAP_ANONYMOUS, -1, 0);
+    WANT(page != MAP_FAILED);
+    return page;
+}
+
+// Parses the document at the end of a page.
+static simd_json_document parse(char *page) {
+    simd_json_document of;
+    simd_json_place place;
+    memcpy(page + PAGE - LEN, document, LEN);
+    WANT(simd_json_parser_parse(&parser, page + PAGE - LEN, LEN, &of, &place) == SIMD_JSON_OK && of.nodes_len == NODES);
+    return of;
+}
+
+static void lead(const simd_json_document *of, const char *text) {
+    for (size_t i = 0; i < POINTERS; i++)
+        WANT(simd_json_pointer(of->nodes, NODES, text, of->text_len, 0, pointers[i], strlen(pointers[i])) == led[i]);
+    WANT(simd_json_key(of->nodes, NODES, text, of->text_len, 0, "b", 1) == 12);
+}
+
+// The nodes with texts of which each byte is another, in memory that has no more: what is found is a node or none.
+static void change(void) {
+    char *page = map();
+    simd_json_document of = parse(page);
+    simd_json_node before[NODES];
+    memcpy(before, of.nodes, sizeof before);
+    for (int byte = 0; byte < 256; byte++) {
+        char *text = malloc(of.text_len);
+        memset(text, byte, of.text_len);
+        memset(page, byte, PAGE);
+        for (size_t at = 0; at < NODES; at++) {
+            for (size_t i = 0; i < POINTERS; i++) {
+                size_t found = simd_json_pointer(of.nodes, NODES, text, of.text_len, at, pointers[i], strlen(pointers[i]));
+                WANT(found < NODES || found == SIMD_JSON_NO_NODE);
+                found = simd_json_key(of.nodes, NODES, text, of.text_len, at, pointers[i], strlen(pointers[i]));
+                WANT(found < NODES || found == SIMD_JSON_NO_NODE);
+            }
+            double number = 7;
+            if (of.nodes[at].kind == SIMD_JSON_DECIMAL) {
+                int32_t status = simd_json_double(text + of.nodes[at].value, of.nodes[at].len, &number);
+                WANT(status == SIMD_JSON_OK ? byte >= '0' && byte <= '9' : number == 7);
+            }
+        }
+        WANT(memcmp(before, of.nodes, sizeof before) == 0);
+        free(text);
+    }
+    munmap(page, PAGE);
+}
+
+// The texts at another address, when the input is gone.
+static void move(void) {
+    char *page = map();
+    simd_json_document of = parse(page);
+    lead(&of, of.text);
+    char *text = malloc(of.text_len);
+    memcpy(text, of.text, of.text_len);
+    munmap(page, PAGE);
+    lead(&of, text);
+    WANT(of.nodes[5].len == 6 && memcmp(text + of.nodes[5].value, "\303\251\360\237\230\200", 6) == 0);
+    WANT(of.nodes[6].len == 20 && memcmp(text + of.nodes[6].value, "18446744073709551616", 20) == 0);
+    free(text);
+}
+
+// Each call with a parser whose last input is gone, after a document and after one that is rejected.
+static void drop(void) {
+    static const char *const others[] = {"[\"\\u0041\"]", "[1,]", "", "\"\377\""};
+    for (int call = 0; call < 40; call++) {
+        char *page = map(), copy[16] = "", out[16];
+        size_t len = strlen(strcpy(copy, others[call / 10])), needed;
+        simd_json_document of = parse(page);
+        simd_json_place place;
+        simd_json_found found;
+        if (call % 2) {
+            page[PAGE - 1] = '"';
+            WANT(simd_json_parser_parse(&parser, page + PAGE - LEN, LEN, &of, &place) != SIMD_JSON_OK);
+        }
+        munmap(page, PAGE);
+        switch (call / 2 % 5) {
+        case 0: simd_json_parser_parse(&parser, copy, len, &of, &place); break;
+        case 1: simd_json_parser_check(&parser, copy, len, &place); break;
+        case 2: simd_json_parser_print(&parser, copy, len, 0, 0, SIMD_JSON_PRETTY, out, sizeof out, &needed, &place); break;
+        case 3: simd_json_parser_index(&parser, copy, len, &place); break;
+        default: simd_json_parser_find(&parser, "/0", 2, &found, out, sizeof out); break;
+        }
+    }
+    char *page = map();
+    parse(page);
+    munmap(page, PAGE);
+    simd_json_close(&parser);
+}
+
+int main(void) {
+    WANT(simd_json_open(&parser, 4) == SIMD_JSON_OK);
+    change();
+    move();
+    drop();
+    return 0;
+}
