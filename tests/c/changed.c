@@ -1,16 +1,9 @@
 // Callers that change, move or unmap an input while they use its nodes. Nodes and counts stay, nothing is read outside what is
 // passed, and the parser does not look at an input again after its call. Silent where all is well.
 #define _GNU_SOURCE
-#include <simd_json.h>
-#include <stdio.h>
-#include <stdlib.h>
-#include <string.h>
 #include <sys/mman.h>
 
-#define WANT(condition)                                                \
-    do {                                                               \
-        if (!(condition)) printf("changed.c:%d: %s\n", __LINE__, #condition), exit(1); \
-    } while (0)
+#include "want.h"
 
 enum { PAGE = 4096 };
 

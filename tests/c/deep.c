@@ -2,15 +2,8 @@
 // Silent where all is well.
 #define _GNU_SOURCE
 #include <pthread.h>
-#include <simd_json.h>
-#include <stdio.h>
-#include <stdlib.h>
-#include <string.h>
 
-#define WANT(condition)                                                \
-    do {                                                               \
-        if (!(condition)) printf("deep.c:%d: %s\n", __LINE__, #condition), exit(1); \
-    } while (0)
+#include "want.h"
 
 enum { DEPTH = 2000000, LEN = 2 * DEPTH };
 

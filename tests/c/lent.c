@@ -1,16 +1,9 @@
 // Memory of each size from none up to one more than is needed, with a page behind it that may not be touched. Silent where
 // all is well.
 #define _GNU_SOURCE
-#include <simd_json.h>
-#include <stdio.h>
-#include <stdlib.h>
-#include <string.h>
 #include <sys/mman.h>
 
-#define WANT(condition)                                                \
-    do {                                                               \
-        if (!(condition)) printf("lent.c:%d: %s\n", __LINE__, #condition), exit(1); \
-    } while (0)
+#include "want.h"
 
 enum { PAGE = 4096 };
 

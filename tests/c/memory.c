@@ -1,14 +1,6 @@
 // Each allocation of each call fails in turn: the status says so, no memory of the caller is written, and what was allocated
 // is freed. Built with -Wl,--wrap=malloc,--wrap=realloc,--wrap=free. Silent where all is well.
-#include <simd_json.h>
-#include <stdio.h>
-#include <stdlib.h>
-#include <string.h>
-
-#define WANT(condition)                                                  \
-    do {                                                                 \
-        if (!(condition)) printf("memory.c:%d: %s\n", __LINE__, #condition), exit(1); \
-    } while (0)
+#include "want.h"
 
 void *__real_malloc(size_t);
 void *__real_realloc(void *, size_t);
