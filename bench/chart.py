@@ -1,20 +1,20 @@
-"""chart.py KINDS.tsv TASKS.tsv [PROCESSOR]: draws the speed of a parse of each text, and of tasks, ours beside the others', as an
-SVG on standard output."""
+"""chart.py FOLDER PROCESSOR: draws the speed of a parse of each text, and of tasks, ours beside the others', as an SVG on standard
+output. The folder has what the harness measured."""
 import sys
 from pathlib import Path
 
-from tables import KINDS, Results
+from tables import KINDS, Results, found_tasks
 
 WIDTH, MIDDLE, LABEL, BAR, GAP = 760, 410, 138, 5, 8
 # Colours with enough contrast on white, and on dark where the reader prefers that.
 STYLE = """
   .page { fill: #ffffff } text { font: 13px system-ui, sans-serif; fill: #24292f } .grid { stroke: #d0d7de }
   .kept { fill: #0969da } .fresh { fill: #80b3f0 } .simdjson { fill: #6e7781 } .rapidjson { fill: #bc4c00 } .serde { fill: #8250df }
-  .find { fill: #1a7f37 } .check { fill: #8fd19e }
+  .find { fill: #1a7f37 } .check { fill: #8fd19e } .path { fill: #9a6700 }
   @media (prefers-color-scheme: dark) {
     .page { fill: #0d1117 } text { fill: #e6edf3 } .grid { stroke: #30363d }
     .kept { fill: #58a6ff } .fresh { fill: #2f6fb5 } .simdjson { fill: #9ea7b3 } .rapidjson { fill: #f0883e } .serde { fill: #bc8cff }
-    .find { fill: #3fb950 } .check { fill: #2a7f42 }
+    .find { fill: #3fb950 } .check { fill: #2a7f42 } .path { fill: #d29922 }
   }
   .title { font-weight: 600; font-size: 15px }
   .small { font-size: 11px }
@@ -24,6 +24,7 @@ LEGEND = {
     "fresh": "simd_json, fresh",
     "find": "simd_json_ondemand, find",
     "check": "simd_json_ondemand, check",
+    "path": "simd_json_path, over a tape",
     "simdjson": "simdjson DOM",
     "rapidjson": "rapidjson, in place",
     "serde": "serde_json, Value",
@@ -56,7 +57,7 @@ class Picture:
         self.text(left, y, title, "title")
         zero, top, row = left + LABEL, y + 24, BAR * len(series) + GAP
         most = max(value for _, values in series for value in values.values() if value)
-        step = next(s for s in (0.1, 0.2, 0.25, 0.5, 1, 2, 5) if most / s <= 6)
+        step = next(s for s in (0.1, 0.2, 0.25, 0.5, 1, 2, 5, 10, 20, 50) if most / s <= 6)
         across, bottom = (right - zero) / most, top + row * len(names)
         for i in range(int(most / step) + 1):
             x = zero + i * step * across
@@ -97,28 +98,28 @@ def parses(results, level):
 
 
 def tasks(results):
-    """Colours, and the speed in each task over that of the first contender. Besides the name of that one."""
-    ns = {}
-    for (_, contender), of in results.ns.items():
-        task, contender = contender.split(": ")
-        ns.setdefault(contender.removeprefix("simd_json ").split(", ")[0], {})[task] = of
-    first, base = next(iter(ns.items()))
-    wanted = {"find": "find", "check": "check", "kept": "tape", "simdjson": "simdjson DOM", "rapidjson": "rapidjson in place"}
-    ratios = {c: {task: of and base[task] and base[task] / of for task, of in ns[w].items()} for c, w in wanted.items() if w in ns}
-    return first, list(ratios.items())
+    """The first contender, colours with the speed in each task over that one's, and the names of the tasks."""
+    found = found_tasks(results)
+    first = next(iter(next(iter(found.values()))))
+    names = dict.fromkeys(name for row in found.values() for name in row)
+    wanted = {"find": "find", "check": "check", "kept": "tape", "path": "path", "simdjson": "simdjson DOM", "rapidjson": "rapidjson in place"}
+    over = {task: {name: ns and row[first] and row[first] / ns for name, ns in row.items()} for task, row in found.items()}
+    series = [(colour, {task: row.get(name) for task, row in over.items()}) for colour, name in wanted.items() if name in names]
+    return first, series, list(found)
 
 
 def main():
-    results, asked = Results(sys.argv[1]), Results(sys.argv[2])
-    level = "v3" if any(c.endswith("kept, v3") for c in results.parts) else "v2"
+    folder = Path(sys.argv[1])
+    results, asked = Results(folder / "kinds.tsv"), Results(folder / "tasks.tsv")
+    level = results.level()
     order = {kind.replace("_", " "): i for i, kind in enumerate(KINDS)}
     texts = sorted(map(named, results.sizes), key=lambda name: (order.get(name, len(order)), name))
     picture = Picture()
-    picture.text(10, 20, ", ".join([f"Longer is faster. Ours at x86-64-{level}", *sys.argv[3:]]), "small")
+    picture.text(10, 20, f"Longer is faster. Ours at x86-64-{level}, {sys.argv[2]}", "small")
     picture.panel(10, MIDDLE - 20, 46, "A parse, in GB/s", list(parses(results, level)), texts)
-    first, done = tasks(asked)
+    first, done, names = tasks(asked)
     y = picture.legend(MIDDLE + 10, 46, LEGEND)
-    picture.panel(MIDDLE + 10, WIDTH - 10, y + 24, f"A task, over {first}", done, list(done[0][1]))
+    picture.panel(MIDDLE + 10, WIDTH - 10, y + 24, f"A task, over {first}", done, names)
     print(picture.svg())
 
 

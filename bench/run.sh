@@ -1,29 +1,69 @@
 #!/bin/sh
 # The benchmark: `make bench` calls it. From the top of the repository: sh bench/run.sh [FILE..]
-# Times the texts that bench/texts.py makes, each FILE, the shapes of bench/shapes.py, which are made to be slow, a log of
-# 1,000,000 lines, tasks, and typed reading, and prints seven tables. ROUNDS says how often, PLACEMENTS at how many places our
+# Times the texts that bench/texts.py makes, each FILE, a log of 1,000,000 lines, tasks, typed reading, and the shapes of
+# bench/shapes.py, which are made to be slow, and prints seven tables. ROUNDS says how often, PLACEMENTS at how many places our
 # code is timed.
-# With SAVE=1 the tables are put into docs/SPEED.md, between its marks, and docs/speed.svg is drawn; without, build/bench has the
-# chart.
-# It installs nothing: a parser whose package is absent is left out, and named.
+# With SAVE=1 the tables are put into docs/SPEED.md, between its marks, their mean into README.md, and docs/speed.svg is drawn;
+# without, build/bench has the chart.
+# It installs nothing: a parser whose package is absent is left out, and named before anything is built. SAVE=1 asks for all.
 set -eu
 cd "$(dirname "$0")/.."
 OUT=$PWD/build/bench
 ROUNDS=${ROUNDS:-11}
 PLACEMENTS=${PLACEMENTS:-4}
+REGISTRY=/usr/share/cargo/registry
 KIT=$(dirname "$(dirname "$(readlink -f "$(command -v rt)")")")
 mkdir -p "$OUT"
 
 say() { echo "bench: $*" >&2; }
 
+# What no part can do without.
+missing=
+for command in rt make cc c++ ar ld nm objcopy python3; do
+    command -v "$command" > /dev/null || missing="$missing $command"
+done
+for file in "$KIT/c/liblibc_c.a" "$KIT/c/libos_c.a" "$@"; do
+    [ -r "$file" ] || missing="$missing $file"
+done
+[ -z "$missing" ] || { say "not found:$missing"; exit 1; }
+
+# What is timed besides, if it is there; packages are Debian's.
+left_out=
+absent() { left_out="$left_out, $1"; }
 levels=x86-64-v2
 kernel=westmere
 if grep -qw avx2 /proc/cpuinfo && grep -qw bmi2 /proc/cpuinfo; then
     levels="$levels x86-64-v3"
     kernel=haswell
 else
-    say "left out: level x86-64-v3, which this processor lacks"
+    absent "level x86-64-v3, which this processor lacks"
 fi
+# has HEADER [LIBRARY]: whether programs in C++ are compiled and linked with it.
+has() { printf '#include <%s>\nint main() {}\n' "$1" | c++ -x c++ - -o "$OUT/probe" ${2:+"$2"} 2> /dev/null; }
+libraries=
+if has simdjson.h -lsimdjson; then libraries="$libraries -lsimdjson"; else absent libsimdjson-dev; fi
+if has yajl/yajl_parse.h -lyajl; then libraries="$libraries -lyajl"; else absent libyajl-dev; fi
+has rapidjson/document.h || absent rapidjson-dev
+rust=yes
+for package in cargo serde_json serde_derive; do
+    case $package in
+        cargo) command -v cargo > /dev/null || { rust=; absent cargo; } ;;
+        *) ls -d $REGISTRY/"$package"-* > /dev/null 2>&1 || { rust=; absent "librust-$(echo $package | tr _ -)-dev"; } ;;
+    esac
+done
+if [ "${SAVE:-}" = 1 ]; then
+    for text in canada citm_catalog github_events gsoc-2018 numbers random twitter twitterescaped; do
+        for file; do [ "${file##*/}" != $text.json ] || continue 2; done
+        absent "$text.json of Boost.JSON among FILES"
+    done
+    [ -z "$left_out" ] || { say "SAVE=1 asks also for ${left_out#, }"; exit 1; }
+fi
+[ -z "$left_out" ] || say "left out: ${left_out#, }"
+
+# The harness finds the headers by itself. What is in headers alone, as simdjson's On-Demand, is built for our highest level.
+# shellcheck disable=SC2086
+c++ -std=c++20 -O3 -march=$kernel -DNDEBUG -DRAPIDJSON_SSE42 -Iinclude bench/harness.cpp -o "$OUT/harness" $libraries -ldl
+python3 bench/texts.py "$OUT/texts" "$@"
 
 # Ours, at each level: a static library, and that as shared ones, so that all fit into one process. Where the linker puts the
 # code, 16 bytes up or down, can change what a text costs by half, and is chance. So the code is linked behind 0, 16, 32 bytes
@@ -63,19 +103,9 @@ for level in $levels; do
     done
 done
 
-# The others, as far as they are installed. The harness finds their headers by itself. What is in headers alone, as simdjson's
-# On-Demand, is built for our highest level.
-libraries=
-for library in simdjson yajl; do
-    if echo 'int main() {}' | c++ -x c++ - -o "$OUT/probe" -l$library 2> /dev/null; then libraries="$libraries -l$library"; fi
-done
-# shellcheck disable=SC2086
-c++ -std=c++20 -O3 -march=$kernel -DNDEBUG -DRAPIDJSON_SSE42 -Iinclude bench/harness.cpp -o "$OUT/harness" $libraries -ldl
-
-REGISTRY=/usr/share/cargo/registry
 serde=
 stream=
-if command -v cargo > /dev/null && ls -d $REGISTRY/serde_json-* $REGISTRY/serde_derive-* > /dev/null 2>&1; then
+if [ "$rust" ]; then
     mkdir -p "$OUT/rust"
     cp bench/rust/Cargo.toml bench/rust/*.rs "$OUT/rust/"
     ln -sfn ../bindings build/bindings
@@ -83,11 +113,8 @@ if command -v cargo > /dev/null && ls -d $REGISTRY/serde_json-* $REGISTRY/serde_
         --config 'source.crates-io.replace-with="system"' --config "source.system.directory=\"$REGISTRY\"")
     serde=serde_json=$OUT/rust/target/release/librust_entries.so
     stream=stream=${serde#serde_json=}
-else
-    say "left out: Rust's serde_json and the crate for Rust, for want of serde_json or its derives"
 fi
 
-python3 bench/texts.py "$OUT/texts" "$@"
 say "timing"
 # shellcheck disable=SC2086
 "$OUT/harness" "$ROUNDS" "$OUT"/texts/kinds/*.json "$@" -- simdjson stage1 rapidjson yajl $serde $parses $calls $scans > "$OUT/kinds.tsv"
@@ -113,22 +140,20 @@ for form in lines:log.jsonl tweets:twitter.json tweets:twitterescaped.json map:c
     "$OUT/harness" "$ROUNDS" "$OUT/texts/tasks/${form#*:}" -- $words >> "$OUT/typed.tsv"
 done
 
+# The documents have all but the shapes, which take longest.
+processor=$(sed -n 's/([RTM]*)//g; s/^model name[^:]*: //p' /proc/cpuinfo | head -n 1)
+echo "$(LC_ALL=C date '+%-d %B %Y'), $processor, $ROUNDS rounds, $PLACEMENTS placements" > "$OUT/when"
+python3 -B bench/chart.py "$OUT" "$processor" > "$OUT/speed.svg"
+if [ "${SAVE:-}" = 1 ]; then
+    python3 -B bench/tables.py "$OUT" docs/SPEED.md README.md
+    cp "$OUT/speed.svg" docs/speed.svg
+    say "docs/SPEED.md, README.md and docs/speed.svg have these results"
+else
+    say "the chart is $OUT/speed.svg; SAVE=1 puts tables and chart into docs/"
+fi
+
 # Their samples are 64 times as long.
 # shellcheck disable=SC2086
 sh bench/shapes.sh "$OUT" $(((ROUNDS + 3) / 4)) "$OUT/simd_json_bench-x86-64-v2-0.so" $parses $rejections
-
-results="$OUT/kinds.tsv $OUT/varied.tsv $OUT/sizes.tsv $OUT/shapes.tsv $OUT/memory.tsv $OUT/lines.tsv $OUT/tasks.tsv $OUT/typed.tsv"
-# shellcheck disable=SC2086
-python3 bench/tables.py $results > "$OUT/tables.md"
-processor=$(sed -n 's/([RTM]*)//g; s/^model name[^:]*: //p' /proc/cpuinfo | head -n 1)
-python3 bench/chart.py "$OUT/kinds.tsv" "$OUT/tasks.tsv" "$processor" > "$OUT/speed.svg"
+python3 -B bench/tables.py "$OUT" > "$OUT/tables.md"
 cat "$OUT/tables.md"
-if [ "${SAVE:-}" = 1 ]; then
-    # shellcheck disable=SC2086
-    python3 bench/tables.py $results docs/SPEED.md
-    cp "$OUT/speed.svg" docs/speed.svg
-    say "docs/SPEED.md and docs/speed.svg have these results"
-else
-    say "the chart is $OUT/speed.svg; SAVE=1 puts both into docs/"
-fi
-say "what is left out comes with libsimdjson-dev, rapidjson-dev, libyajl-dev, librust-serde-json-dev, librust-serde-derive-dev and cargo (Debian)"

@@ -1,8 +1,6 @@
-"""tables.py KINDS.tsv VARIED.tsv SIZES.tsv SHAPES.tsv MEMORY.tsv LINES.tsv TASKS.tsv TYPED.tsv [DOCUMENT]: what the harness
-measured, as tables in Markdown.
-
-With a document, what matters most is put there between the marks `<!-- results -->` and `<!-- end of results -->`; else all
-is printed."""
+"""tables.py FOLDER: prints what the harness measured, which is in FOLDER, as tables in Markdown.
+tables.py FOLDER SPEED.md README.md: puts what matters most between the marks `<!-- results -->` and `<!-- end of results -->` of
+the first page, and the mean over all texts and sizes into the sentence of the second."""
 import math
 import re
 import statistics
@@ -14,10 +12,15 @@ KINDS = """tweets tweets_ascii catalogue numbers escapes long_strings deep chain
 200_bytes""".split()
 # The texts that are read into types, by their files.
 FORMS = {"log": "log lines", "twitter": "tweets", "twitterescaped": "escaped tweets", "canada": "coordinates"}
+# What reads into types, and the column that has it. The others' speeds are over the first.
+READERS = {"serde_json": None, "toolchain": "toolchain's serde_json", "simd_json": "types, Rattle", "crate": "types, Rust"}
 # The sizes of the shapes that are made to be slow.
 SHAPE_BYTES = [10**6, 64 * 10**6]
-# Columns of the first table that a document leaves out; the chart has the last two.
+# Columns that a document leaves out; the chart has most of them.
 LEFT_OUT = ["fresh", "C check", "C kept parse", "yajl, events alone", "rapidjson in place", "serde_json Value"]
+LEFT_OUT_OF_TASKS = ["simdjson DOM", "rapidjson in place", READERS["toolchain"]]
+# The sentence of README.md that has the mean.
+SENTENCE = re.compile(r"\d\.\d\d times on average over \d+ texts and \d+ sizes \(\S+ to \S+\), at `x86-64-v\d`, in \w+ \d{4}")
 
 
 class Results:
@@ -52,6 +55,10 @@ class Results:
         ns = self.ns[text, contender]
         return ns and self.base(text, self.parts[contender]) / ns
 
+    def level(self):
+        """The highest level that was timed."""
+        return "v3" if any(c.endswith(", v3") for c in self.parts) else "v2"
+
 
 def shown_size(size):
     for unit, name in ((10**6, "MB"), (10**3, "kB")):
@@ -80,7 +87,7 @@ def table_of_kinds(results, left_out=()):
     """A line for each text: ours at the highest level that was timed, then the others. Another level has its mean alone."""
     kinds = {t: Path(t).stem for t in results.sizes if "/texts/" in t}
     texts = sorted(results.sizes, key=lambda t: KINDS.index(kinds[t]) if t in kinds else len(KINDS))
-    level = "v3" if any(c.endswith(", v3") for c in results.parts) else "v2"
+    level = results.level()
     ours = [c for part in ("parse", "scan") for c in results.contenders(part, ours=True)]
     shown_ones = [c for c in ours if c.endswith(f", {level}")] + results.contenders("parse", ours=False)
     shown_ones = [c for c in shown_ones if not c.startswith("simdjson ") and column(c, level) not in left_out]
@@ -151,81 +158,102 @@ def table_of_lines(lines, is_brief=False):
     )
 
 
-def table_of_tasks(tasks):
-    """A line for each task: what simdjson's On-Demand takes (where it is absent, the fastest), and the speeds over that."""
-    ms = {}
+def found_tasks(tasks):
+    """A row of each task: its name, and what each contender takes, in milliseconds. The first is simdjson's On-Demand, if it is there."""
+    found = {}
     for (text, contender), ns in tasks.ns.items():
         task, name = contender.split(": ")
         name = name.removeprefix("simd_json ").split(", ")[0]
-        ms.setdefault(task, {})[name] = ns and ns * tasks.sizes[text] / 1e6
-    names = list(dict.fromkeys(name for found in ms.values() for name in found))
-    lines = []
-    for task, found in ms.items():
-        base = found.get(names[0]) or min(filter(None, found.values()))
-        lines.append([task, shown(base), *(shown(found.get(name) and base / found[name]) for name in names[1:])])
-    return rows(["task", f"{names[0]}: ms", *names[1:]], lines)
+        found.setdefault(task, {})[name] = ns and ns * tasks.sizes[text] / 1e6
+    return found
 
 
-def table_of_typed(typed):
-    """A line for each text: what the toolchain's serde_json takes with strings that the type owns, and the speeds over that."""
-    ways = [f"{reader} {form}" for reader in ("toolchain", "serde_json", "simd_json", "crate") for form in ("owned", "borrowed")]
-    lines = []
+def found_typed(typed):
+    """A row of each text and form. The first contender is Rust's serde_json, if it is there: with owned strings where it can't borrow
+    them. What has no strings has one form."""
+    found = {}
     for text, size in typed.sizes.items():
-        found = found_typed(typed, text)
-        base = found[ways[0]]
-        lines.append([FORMS[Path(text).stem], shown(base * size / 1e6), *(shown(found.get(w) and base / found[w]) for w in ways[1:])])
-    return rows(["text", f"{ways[0]}: ms", *ways[1:]], lines)
+        ms = {name.split(", ")[0]: ns and ns * size / 1e6 for (of, name), ns in typed.ns.items() if of == text}
+        name = FORMS[Path(text).stem]
+        for form in ("owned",) if name == "coordinates" else ("owned", "borrowed"):
+            row = {reader: ms[f"{reader} {form}"] for reader in READERS if f"{reader} {form}" in ms}
+            if "serde_json" in row:
+                row["serde_json"] = row["serde_json"] or ms["serde_json owned"]
+            found[f"{name}, {form}"] = row
+    return found
 
 
-def found_typed(typed, text):
-    return {name.split(", ")[0]: ns for (of, name), ns in typed.ns.items() if of == text}
+def table_of_tasks(tasks, typed, left_out=()):
+    """A line for each task and each type that is read: what the first contender takes, and the speeds over that."""
+    found = found_tasks(tasks)
+    names = list(dict.fromkeys(name for row in found.values() for name in row))
+    shown_ones = [*names[1:], *filter(None, READERS.values())]
+    found |= {task: {READERS[reader] or reader: ms for reader, ms in row.items()} for task, row in found_typed(typed).items()}
+    lines = []
+    for task, row in found.items():
+        base = next(iter(row.values())) or min(filter(None, row.values()))
+        cells = ["" if name not in row else shown(row[name] and base / row[name]) for name in shown_ones if name not in left_out]
+        lines.append([task, shown(base), *cells])
+    return rows(["task", "ms", *(name for name in shown_ones if name not in left_out)], lines)
 
 
 def mean_of_crate(typed):
-    """How much faster than Rust's serde_json the crate is, over texts and forms. What serde_json can't borrow it reads owned."""
-    ratios = []
-    for text in typed.sizes:
-        found = found_typed(typed, text)
-        for form in ("owned", "borrowed"):
-            theirs = found.get(f"serde_json {form}") or found.get("serde_json owned")
-            ratios.append(theirs and theirs / found[f"crate {form}"])
-    return shown(mean(ratios))
+    """How much faster than Rust's serde_json the crate for Rust is, over texts and forms."""
+    found = [row for row in found_typed(typed).values() if "serde_json" in row]
+    return shown(mean([row["serde_json"] / row["crate"] for row in found])) if found else "-"
+
+
+def mean_of_all(kinds, sizes, when):
+    """What README.md says: the mean of kept buffers over all texts and sizes, and the range."""
+    ratios = [of.ratio(t, f"simd_json kept, {kinds.level()}") for of in (kinds, sizes) for t in of.sizes]
+    return (
+        f"{shown(mean(ratios))} times on average over {len(kinds.sizes)} texts and {len(sizes.sizes)} sizes "
+        f"({shown(min(ratios))} to {shown(max(ratios))}), at `x86-64-{kinds.level()}`, in {' '.join(when.split(',')[0].split()[1:])}"
+    )
+
+
+def put(document, pattern, text):
+    """Puts the text in place of the one that the pattern finds."""
+    page = document.read_text()
+    if not pattern.search(page):
+        sys.exit(f"{document} has no place for the results")
+    document.write_text(pattern.sub(lambda _: text, page, count=1))
 
 
 def main():
-    kinds, varied, sizes, log, tasks, typed = (Results(sys.argv[i]) for i in (1, 2, 3, 6, 7, 8))
+    folder, *documents = map(Path, sys.argv[1:])
+    kinds, varied, sizes, log, tasks, typed = (
+        Results(folder / f"{name}.tsv") for name in ("kinds", "varied", "sizes", "lines", "tasks", "typed")
+    )
+    when = (folder / "when").read_text().strip()
     whole, scan = ("simdjson's best DOM parse", "its best stage 1") if kinds.has_simdjson() else ("the fastest", "the fastest")
-    is_page = sys.argv[-1].endswith(".md")
+    first = next(iter(next(iter(found_tasks(tasks).values()))))
     text = (
-        f"Speed of a whole parse over {whole}, of a scan over {scan}, ours at x86-64-v3 where the processor has it.\n\n"
-        f"{table_of_kinds(kinds, LEFT_OUT if is_page else ())}\n\n"
+        f"Measured on {when}. Speed of a whole parse over {whole}, of a scan over {scan}, ours at `x86-64-{kinds.level()}`.\n\n"
+        f"{table_of_kinds(kinds, LEFT_OUT if documents else ())}\n\n"
         f"Geometric mean of the others: {means(kinds, ours=False) or 'none is installed'}.\n\n"
         f"Over forty different texts of 24 kB of each kind, one after the other: {means(varied)}.\n\n"
         f"Cost against size, over tweets: what a byte of {whole} takes, and our speed over it.\n\n"
-        f"{table_of_sizes(sizes, 2 if is_page else 1)}\n\n"
+        f"{table_of_sizes(sizes, 2 if documents else 1)}\n\n"
         f"Geometric mean over these {len(kinds.sizes)} texts and {len(sizes.sizes)} sizes: {means(kinds, sizes)}.\n\n"
         f"A log of {sum(log.sizes.values()) // 200:,} lines of 200 bytes, line by line or as one stream, and the speed over the fastest "
         f"of {'simdjson' if log.has_simdjson() else 'all'}.\n\n"
-        f"{table_of_lines(log, is_page)}\n\n"
-        f"Tasks, by a kept tape, on demand (`find`), on demand after a check, and by a query over a tape (`path`); speed over the first column.\n\n"
-        f"{table_of_tasks(tasks)}\n\n"
-        f"Types that own or borrow their strings, by the toolchain's `serde_json`, Rust's, `simd_json_serde`, and the crate for Rust, "
-        f"which has {mean_of_crate(typed)} times the speed of Rust's `serde_json` in the geometric mean.\n\n"
-        f"{table_of_typed(typed)}\n"
+        f"{table_of_lines(log, bool(documents))}\n\n"
+        f"Tasks: what {first} takes, and our speed over that by a kept tape, on demand (`find`), on demand after a check, and by JSONPath "
+        f"over a tape (`path`, 32 times). Types with owned or borrowed strings: what Rust's `serde_json` takes, and the speed over that of "
+        f"`simd_json_serde` and of the crate for Rust (geometric mean {mean_of_crate(typed)}).\n\n"
+        f"{table_of_tasks(tasks, typed, LEFT_OUT_OF_TASKS if documents else ())}\n"
     )
-    if not is_page:
-        shapes, memory = Results(sys.argv[4]), sys.argv[5]
-        print(text)
-        print("Forty different texts of 24 kB of each kind, one after the other.\n")
-        print(table_of_kinds(varied), end="\n\n")
-        print("Shapes that are made to be slow: nanoseconds of a byte at 1 MB, at 64 MB (and how many times as much that is).\n")
-        print(table_of_shapes(shapes, memory))
+    if documents:
+        speed, readme = documents
+        put(speed, re.compile("<!-- results -->.*<!-- end of results -->", re.DOTALL), f"<!-- results -->\n\n{text}\n<!-- end of results -->")
+        put(readme, SENTENCE, mean_of_all(kinds, sizes, when))
         return
-    document = Path(sys.argv[-1])
-    marked = re.compile(r"(<!-- results -->\n).*(<!-- end of results -->)", re.DOTALL)
-    if not marked.search(document.read_text()):
-        sys.exit(f"{document} has no marks for the results")
-    document.write_text(marked.sub(lambda m: f"{m[1]}\n{text}\n{m[2]}", document.read_text()))
+    print(text)
+    print("Forty different texts of 24 kB of each kind, one after the other.\n")
+    print(table_of_kinds(varied), end="\n\n")
+    print("Shapes that are made to be slow: nanoseconds of a byte at 1 MB, at 64 MB (and how many times as much that is).\n")
+    print(table_of_shapes(Results(folder / "shapes.tsv"), folder / "memory.tsv"))
 
 
 if __name__ == "__main__":

@@ -1,6 +1,7 @@
 #!/bin/sh
-# The lines of definitions that docs/DESIGN.md counts are those of the files, no file of simd_json_parts is left out, and the
-# sums are right: silent where all is well, and else a line for each count that is wrong, and status 1.
+# The lines of definitions that docs/DESIGN.md counts are those of the files, no file of simd_json_parts is left out, the sums are
+# right, and the documents have at most 10,500 words. Silent where all is well, else a line for each count that is wrong, and
+# status 1.
 set -eu
 cd "$(dirname "$0")/.."
 
@@ -23,6 +24,9 @@ wrong=$(
         while (match(row, /` [0-9]+/)) { sum += substr(row, RSTART + 2, RLENGTH - 2); row = substr(row, RSTART + RLENGTH) }
         if (sum != $4 + 0) print "DESIGN.md: the sum of a row is " sum " and not" $4
     }' docs/DESIGN.md
+    # What is added to the documents replaces something.
+    words=$(cat README.md CHANGELOG.md CONTRIBUTING.md SECURITY.md docs/*.md bench/HISTORY.md examples/README.md | wc -w)
+    [ "$words" -le 10500 ] || echo "the documents have $words words, more than 10500"
 )
 if [ -n "$wrong" ]; then
     printf '%s\n' "$wrong" >&2
