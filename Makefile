@@ -138,7 +138,7 @@ build/%/built: $(sources)
 	$(MAKE) CPU=$* into=build/$* library $(released)
 	touch $@
 
-# Beside the parsers that are installed, over generated texts and FILES. SAVE=1 puts the results into docs/.
+# Beside the parsers that are installed, over generated texts and FILES. SAVE=1 puts the results into the documents.
 bench: has-rt
 	MAKEFLAGS= SAVE=$(SAVE) sh bench/run.sh $(FILES)
 

@@ -5,7 +5,7 @@
 # code is timed.
 # With SAVE=1 the tables are put into docs/SPEED.md, between its marks, their mean into README.md, and docs/speed.svg is drawn;
 # without, build/bench has the chart.
-# It installs nothing: a parser whose package is absent is left out, and named before anything is built. SAVE=1 asks for all.
+# It installs nothing: a parser whose package is absent is left out, and named before anything is built. SAVE=1 needs all.
 set -eu
 cd "$(dirname "$0")/.."
 OUT=$PWD/build/bench
@@ -56,7 +56,7 @@ if [ "${SAVE:-}" = 1 ]; then
         for file; do [ "${file##*/}" != $text.json ] || continue 2; done
         absent "$text.json of Boost.JSON among FILES"
     done
-    [ -z "$left_out" ] || { say "SAVE=1 asks also for ${left_out#, }"; exit 1; }
+    [ -z "$left_out" ] || { say "SAVE=1 also needs ${left_out#, }"; exit 1; }
 fi
 [ -z "$left_out" ] || say "left out: ${left_out#, }"
 

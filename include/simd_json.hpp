@@ -1,5 +1,5 @@
 /* simd_json.hpp: simd_json.h for C++17, in a header. The parser that it calls is proved; the
- * wrapper is tested alone.
+ * wrapper is only tested.
  *
  *     simd_json::parser parser;
  *     simd_json::element root = parser.parse(R"({"the_answer": 42, "sizes": [1, 2]})");
@@ -69,10 +69,10 @@ public:
         return place_.character;
     }
 
-    /* Where it is for people, also an error of the whole input, whose index is 0, and one of more
-     * text after the document, at its first byte: the byte, the line and the column in characters,
-     * both from 1, and the reason, as "expected a value, found `]`". Zeros and no reason where the
-     * text was not given, or no memory was left to look. */
+    /* The place for people, also of an error of the whole input, whose index is 0, and of more text
+     * after the document, at its first byte: the byte, the line and the column in characters, both
+     * from 1, and the reason, as "expected a value, found `]`". Zeros and no reason if the text was
+     * not given, or an allocation failed. */
     size_t byte() const noexcept { return position_.byte; }
     size_t line() const noexcept { return position_.line; }
     size_t column() const noexcept { return position_.column; }
@@ -85,8 +85,8 @@ private:
     std::string reason_, what_;
 };
 
-/* Without NDEBUG an element knows its parse, and is larger. So it has another name then: parts of a
- * program that differ in NDEBUG and hand elements to each other are not linked. */
+/* Without NDEBUG an element has the number of its parse, and is larger. So it has another name
+ * then: parts of a program that differ in NDEBUG and pass elements to each other are not linked. */
 #ifdef NDEBUG
 inline namespace unchecked {
 #else
@@ -97,11 +97,11 @@ template <bool is_object> class members;
 using array_view = members<false>;
 using object_view = members<true>;
 
-/* A value of a document, copied freely; one that is made of nothing is null. It is valid until its
- * parser parses again or is destroyed, and as long as a text that was lent is unchanged: that is not
- * tested (parser::parse). Without NDEBUG it knows which parse it is of, and throws std::logic_error
- * where that is over; with NDEBUG it does not, since loops over a large document take 4 to 117 %
- * longer for it. */
+/* A value of a document, which may be copied; a default one is null. It is valid until its parser
+ * parses again or is destroyed, and as long as a string that was passed by reference is unchanged,
+ * which is not tested (parser::parse). Without NDEBUG it throws std::logic_error once another parse
+ * has begun; with NDEBUG it does not, since with the test loops over a large document take 4 to
+ * 117 % longer. */
 class element {
     template <class T>
     static constexpr bool is_index = (std::is_integral_v<T> || std::is_enum_v<T>)
@@ -122,8 +122,8 @@ public:
     bool is_array() const { return kind() == SIMD_JSON_ARRAY; }
     bool is_object() const { return kind() == SIMD_JSON_OBJECT; }
 
-    /* The truth value, or nothing. `if (e.as_bool())` asks whether it has one, so it passes for
-     * `false` too: `if (e.as_bool().value())`, or `.value_or(false)`, asks whether it is true. */
+    /* The truth value, or nothing. `if (e.as_bool())` tests whether there is one, so it also passes
+     * for `false`: `if (e.as_bool().value())`, or `.value_or(false)`, tests whether it is true. */
     std::optional<bool> as_bool() const { return if_kind(SIMD_JSON_BOOL, node().value != 0); }
 
     /* The value as a type, or nothing: an integer that fits, a string without its escapes, the
@@ -148,7 +148,7 @@ public:
         return lower ? lower : if_kind(SIMD_JSON_U128, text());
     }
 
-    /* The number as the nearest double, infinite where it is past the greatest. */
+    /* The number as the nearest double, infinite if it is past the greatest. */
     std::optional<double> as_double() const {
         const simd_json_node &of = node();
         switch (of.kind) {
@@ -170,8 +170,8 @@ public:
     object_view object() const;
 
     /* The value of the first member of an object with a key, or the element of an array with an
-     * index, of any integral type but bool; nothing, or for [] std::out_of_range, where there is
-     * none. */
+     * index, of any integral type but bool; if there is none, nothing, or for [] std::out_of_range.
+     */
     std::optional<element> find(std::string_view key) const { return named(simd_json_key, key); }
     std::optional<element> find(size_t index) const;
     element operator[](std::string_view key) const {
@@ -185,7 +185,7 @@ public:
         return value ? *value : throw absent("element " + std::to_string(index));
     }
 
-    /* The value that a JSON Pointer (RFC 6901) names beneath this one, as "/sizes/0". */
+    /* The value that a JSON Pointer (RFC 6901) names in this one, as "/sizes/0". */
     std::optional<element> pointer(std::string_view pointer) const {
         return named(simd_json_pointer, pointer);
     }
@@ -195,7 +195,7 @@ private:
     friend class parser;
     friend class printer;
 
-    /* What a parser lends, and how many parses it has begun. */
+    /* A document of a parser, and how many parses that has begun. */
     struct lent : simd_json_document {
         uint64_t parses = 0;
     };
@@ -312,7 +312,7 @@ inline std::optional<element> element::find(size_t index) const {
 }
 
 /* Whether a value is a scalar: a truth value, the integer, a number whose nearest double it is, the
- * string without its escapes, or null. `root["id"] == 7`, and with `find` also where there may be
+ * string without its escapes, or null. `root["id"] == 7`, and with `find` also if there may be
  * none: `root.find("id") == 7`. */
 template <class T>
 inline constexpr bool is_scalar = std::is_arithmetic_v<T> || std::is_same_v<T, std::nullptr_t>
@@ -346,8 +346,8 @@ bool operator!=(const T &scalar, const element &value) {
     return !(value == scalar);
 }
 
-/* The text of a value, in the form of simd_json_parser_print. What is open is kept in a list, so
- * that no depth ends a program. */
+/* The text of a value, in the form of simd_json_parser_print. Open containers are kept in a list,
+ * so the stack is the same at any depth. */
 class printer {
 public:
     explicit printer(uint32_t layout) : is_pretty_(layout != SIMD_JSON_COMPACT) {}
@@ -469,8 +469,8 @@ inline std::ostream &operator<<(std::ostream &out, const element &value) {
 }
 
 /* A parser, which keeps its memory from one input to the next. One thread uses it at a time. It may
- * be moved, and the elements of its document with it; the one that it was moved from is closed, and
- * rejects each text with SIMD_JSON_PARSER_CLOSED. */
+ * be moved, and its elements stay valid; the one that it was moved from is closed, and rejects each
+ * text with SIMD_JSON_PARSER_CLOSED. */
 class parser {
     /* A string that may be moved from, and nothing that only converts to one. */
     template <class String>
@@ -482,8 +482,8 @@ public:
             throw std::bad_alloc();
     }
 
-    /* Parses a copy of the text. Throws its first error, or std::bad_alloc. The document is the
-     * parser's, so not that of a parser which is gone at once. */
+    /* Parses a copy of the text. Throws its first error, or std::bad_alloc. The document is in the
+     * parser, which so can't be a temporary. */
     element parse(std::string_view text) & {
         std::string kept;
         own(text, kept);
@@ -494,8 +494,8 @@ public:
     element parse(std::string_view) && = delete;
 
     /* The same without a copy. The string is OVERWRITTEN, and strings and literals of the document
-     * are in it: it must stay where it is, unchanged, as long as elements are used. An error has its
-     * index, and neither line nor reason, since the text is lost; check() has them, or a copy. */
+     * are in it: it must not be moved or changed as long as elements are used. An error has its
+     * index, but no line and no reason, since the text is lost; check() has them, or a copy. */
     element parse(std::string &lent) & {
         simd_json_place place;
         check_status(try_parse(lent, place), place);
@@ -509,7 +509,7 @@ public:
         return root();
     }
 
-    /* The same without exceptions but std::bad_alloc: after SIMD_JSON_OK root() is the document. Of
+    /* The same, but throws only std::bad_alloc: after SIMD_JSON_OK root() is the document. After
      * another status of a copy error(status, place, text) has line, column and reason. */
     int32_t try_parse(std::string_view text, simd_json_place &place) {
         place = nowhere;
@@ -540,8 +540,8 @@ public:
         return state_->parse(state_->owned.data(), state_->owned.size(), place);
     }
 
-    /* Throws the first error of a text that is no document, or std::bad_alloc. The text is checked
-     * where it is. The document that was parsed before is over, as after each call of these. */
+    /* Throws the first error of a text that is not a document, or std::bad_alloc. The text is not
+     * copied. The document that was parsed before ends, as at each of these calls. */
     void check(std::string_view text) {
         std::string kept;
         own(text, kept);
@@ -558,9 +558,9 @@ public:
         return status;
     }
 
-    /* The text of a document, or of the value in it that a JSON Pointer (RFC 6901) names, as
-     * simd_json_parser_print writes it, which is proved. Throws the first error of the text, or one
-     * of SIMD_JSON_NO_VALUE, or std::bad_alloc. */
+    /* The text of a document, or of the value in it that a JSON Pointer (RFC 6901) names, by
+     * simd_json_parser_print, which is proved. Throws the first error of the text, or one with
+     * SIMD_JSON_NO_VALUE, or std::bad_alloc. */
     std::string print(std::string_view text, std::string_view pointer = {},
                       uint32_t layout = SIMD_JSON_COMPACT) {
         std::string kept, kept_pointer, out;
@@ -584,9 +584,9 @@ public:
         return out;
     }
 
-    /* Values on demand: keeps a copy of the text, in place of the one before, for find(). Its size
-     * and encoding are checked, and that strings end and hold no byte below 0x20: throws such an
-     * error, or std::bad_alloc. That it is a document is not checked. */
+    /* Values on demand: keeps a copy of the text, instead of the one before, for find(). Only its
+     * size and encoding are checked, and that strings end and contain no byte below 0x20: throws
+     * such an error, or std::bad_alloc. */
     void index(std::string_view text) {
         std::string kept;
         own(text, kept);
@@ -599,10 +599,10 @@ public:
         check_status(status, place, text);
     }
 
-    /* The value that a JSON Pointer (RFC 6901) names in the text that is kept, or nothing: the
-     * parser's document, so it is valid until the next call. Only the value, and what lies on the
-     * way to it, is checked: where the rest is no document, it may be found all the same. Throws the
-     * first error of the value, whose places are from its first byte on, or std::bad_alloc. */
+    /* The value that a JSON Pointer (RFC 6901) names in the text that is kept, or nothing. It is a
+     * document of the parser, so it is valid until the next call. Only the value and what is on the
+     * way to it are checked: it may also be found in a text that is not a document. Throws the
+     * first error of the value, whose places count from its first byte, or std::bad_alloc. */
     std::optional<element> find(std::string_view pointer) & {
         std::string kept;
         own(pointer, kept);
@@ -620,7 +620,7 @@ public:
     }
     std::optional<element> find(std::string_view) && = delete;
 
-    /* The document that was parsed last. Throws std::logic_error where none was, or it was
+    /* The document that was parsed last. Throws std::logic_error if there was none, or it was
      * rejected. */
     element root() const & {
         if (!state_ || !state_->document.nodes)
@@ -632,7 +632,7 @@ public:
 private:
     static constexpr simd_json_place nowhere{0, SIMD_JSON_NO_CHARACTER};
 
-    /* Apart, so that the document and what it is in stay where they are when the parser is moved: a
+    /* Behind a pointer, so that the document and its text stay in place when the parser is moved: a
      * short string has its bytes in itself. */
     struct state {
         simd_json_parser parser{};

@@ -939,14 +939,14 @@ static PyMethodDef parser_methods[] = {
      "check($self, data, /)\n--\n\nRaises SimdJsonError unless the bytes are a document."},
     {"index", parser_index, METH_O,
      "index($self, data, /)\n--\n\n"
-     "Keeps a copy of a document for get, in place of the one before.\n\n"
-     "Its size and encoding are checked, and that strings end and hold no byte below 0x20; else it raises SimdJsonError.\n"
-     "That it is a document is not checked."},
+     "Keeps a copy of a document for get, instead of the one before.\n\n"
+     "Only its size and encoding are checked, and that strings end and contain no byte below 0x20: if not, it raises\n"
+     "SimdJsonError."},
     {"get", (PyCFunction)(void (*)(void))parser_get, METH_VARARGS | METH_KEYWORDS,
      "get($self, pointer, /, default=None)\n--\n\n"
      "The value that a JSON Pointer (RFC 6901) names in what index has kept, or default.\n\n"
-     "Only the value, and what lies on the way to it, is checked: where the rest is no document, a value may be found all the\n"
-     "same. SimdJsonError is raised of the value alone, whose text is doc."},
+     "Only the value and what is on the way to it are checked: it may also be found in an input that is not a document.\n"
+     "SimdJsonError is raised for an error in the value, whose text is doc."},
     {NULL, NULL, 0, NULL},
 };
 
@@ -981,7 +981,7 @@ static PyMethodDef functions[] = {
      " max_depth=1024)\n--\n\n"
      "The value of a JSON document (RFC 8259) in str, bytes, bytearray or memoryview.\n\n"
      "parse_float and parse_int are called with the literal of a number, object_hook with a dict, and object_pairs_hook,\n"
-     "which goes before it, with a list of pairs; what they return is the value. They see no container that is half made.\n"
+     "which comes first, with a list of pairs; what they return is the value. They see no unfinished container.\n"
      "parse_constant raises TypeError: NaN and Infinity are rejected.\n\n"
      "Raises SimdJsonError, with the first error and its place."},
     {"check", (PyCFunction)(void (*)(void))check, METH_VARARGS | METH_KEYWORDS,
@@ -989,8 +989,8 @@ static PyMethodDef functions[] = {
     {"get", (PyCFunction)(void (*)(void))get, METH_VARARGS | METH_KEYWORDS,
      "get(data, pointer, /, default=None, *, max_depth=1024)\n--\n\n"
      "The value that a JSON Pointer (RFC 6901) names in a document, or default.\n\n"
-     "Only the value, and what lies on the way to it, is checked: where the rest is no document, a value may be found all the\n"
-     "same. For several values of one document Parser.index and Parser.get are faster."},
+     "Only the value and what is on the way to it are checked: it may also be found in an input that is not a document.\n"
+     "For several values of one document Parser.index and Parser.get are faster."},
     {"_set_error", set_error, METH_O, NULL},
     {NULL, NULL, 0, NULL},
 };

@@ -4,7 +4,7 @@
     simd_json.loads(b'{"the_answer": 42}')["the_answer"]
 
 The parse is proved: what is accepted, the nodes, the first error and its place. What makes Python
-values of the nodes is C code that is tested alone.
+values of the nodes is C code that is only tested.
 
 One interpreter of a process can import it, the first that does; others get ImportError.
 """
@@ -21,10 +21,10 @@ class SimdJsonError(JSONDecodeError):
     """The input is not a JSON document within the limits.
 
     msg: the error in words
-    doc: the input as it was given: of json's errors it is always a str, for which bytes would have
-        to be copied; a memoryview is not pickled
-    pos: the index of the error in doc, in characters of a str, else in bytes; of text that follows
-        a document its first
+    doc: the input as it was given; json's errors always have a str, for which bytes would have to
+        be copied; a memoryview is not pickled
+    pos: the index of the error in doc, in characters of a str, otherwise in bytes; of text that
+        follows a document its first
     reason: its kind, as "InvalidNumber"
     lineno, colno: the line, and the column in characters, both from 1
     """
@@ -82,10 +82,10 @@ class Parser(_native.Parser):
 
     def lines(self, file, *, on_error=None):
         """The values of the lines of a binary file, or of any other iterable of lines; blank lines
-        are passed over.
+        are skipped.
 
         A line that is not a document raises SimdJsonError, with the line as doc and its number as
-        lineno. Where on_error is given, it is called with the error instead, and the next line is
+        lineno. If on_error is given, it is called with the error instead, and the next line is
         read.
         """
         for number, line in enumerate(file, 1):

@@ -29,7 +29,7 @@ kinds! {
     InputTooLarge = 2,
     /// Not UTF-8 (RFC 3629).
     InvalidUtf8 = 3,
-    /// A string is left open, or holds a byte below 0x20; with a character: the input ends early, reported at the last token.
+    /// A string has no end, or contains a byte below 0x20; with a character: the input ends early, reported at the last token.
     Syntax = 4,
     /// Nothing but whitespace.
     Eof = 5,
@@ -118,8 +118,8 @@ pub struct Location {
 }
 
 impl Location {
-    /// The index in bytes: that of the error, but of more text after a document that of this text, and of an error of the whole
-    /// input that of the bytes which are wrong.
+    /// The index in bytes: that of the error; for more text after a document that of this text; for an error of the whole input
+    /// that of the bytes which are wrong.
     pub fn byte(&self) -> usize {
         self.byte
     }

@@ -57,7 +57,7 @@ struct Found {
     len: usize,
 }
 
-/// What a parse lends: nodes of the parser, until its next call, and texts in the input, as long as that is unchanged.
+/// The nodes of a parser, valid until its next call, and their texts in the input, valid as long as that is unchanged.
 #[repr(C)]
 pub(crate) struct Document {
     nodes: *const Node,
@@ -230,7 +230,7 @@ pub(crate) fn indexes(input: &[u8]) -> Option<Vec<u32>> {
     (status == OK).then_some(indexes)
 }
 
-/// Checks that the input is a document with at most 1,024 open containers, and leaves it as it is.
+/// Checks that the input is a document with at most 1,024 open containers. The input is unchanged.
 ///
 /// # Errors
 ///
@@ -259,7 +259,7 @@ fn result_of(status: i32, place: &Place) -> Result<(), Error> {
 ///
 /// `Buffers::default()` takes memory with the first input, for at most 1,024 open containers.
 ///
-/// What is lent ends with the next call, so this does not compile:
+/// A tape ends with the next call, so this does not compile:
 ///
 /// ```compile_fail,E0499
 /// let mut buffers = simd_json_proved::Buffers::default();
@@ -319,7 +319,7 @@ impl Buffers {
 
     /// Parses a document into a tape, whose nodes are in this memory and whose texts are in the input, which is overwritten.
     ///
-    /// So neither an input of which nothing is left compiles, nor one that is changed while there is a tape:
+    /// So neither a temporary input compiles, nor one that is changed while there is a tape:
     ///
     /// ```compile_fail,E0716
     /// let mut buffers = simd_json_proved::Buffers::default();
@@ -390,7 +390,7 @@ impl Buffers {
         Ok(unsafe { Value::new(document.lent_nodes(), document.lent_texts()) })
     }
 
-    /// Checks that the input is a document, and leaves it as it is.
+    /// Checks that the input is a document. The input is unchanged.
     ///
     /// # Errors
     ///
@@ -407,8 +407,8 @@ impl Buffers {
     ///
     /// # Errors
     ///
-    /// An error of the whole input: its size, its encoding, or a string that has no end or holds a byte below 0x20. That
-    /// it is a document is not checked.
+    /// An error of the whole input: its size, its encoding, or a string that has no end or contains a byte below 0x20.
+    /// Whether it is a document is not checked.
     pub fn index(&mut self, input: &[u8]) -> Result<Index<'_>, Error> {
         self.open()?;
         let mut place = NO_PLACE;
@@ -467,12 +467,12 @@ pub struct Index<'buffers> {
 }
 
 impl Index<'_> {
-    /// The value that a JSON Pointer (RFC 6901) names, or `None`. Only what lies on the way to it, and the value, is checked:
-    /// where the input is no document, a value may be found all the same.
+    /// The value that a JSON Pointer (RFC 6901) names, or `None`. Only the value and what is on the way to it are checked: it
+    /// may also be found in an input that is not a document.
     ///
     /// # Errors
     ///
-    /// The first error of the value, whose index is from its first byte on.
+    /// The first error of the value, whose index counts from its first byte.
     pub fn find(&mut self, pointer: &str) -> Result<Option<Value<'_>>, Error> {
         match self.buffers.find(pointer)? {
             Some(len) => self.buffers.value_of_copy(len).map(Some),

@@ -75,7 +75,7 @@ pub fn to_tape(input: &mut [u8]) -> Result<Tape<'_>, Error> {
     Ok(Tape::owned(document, buffers, Vec::new()))
 }
 
-/// Parses a document into a tape that holds the input and borrows nothing, and so may be returned from a function.
+/// Parses a document into a tape that owns the input and borrows nothing, and so may be returned from a function.
 ///
 /// ```
 /// use simd_json_proved::{to_owned_tape, Error, Tape};
