@@ -52,10 +52,12 @@ for package in cargo serde_json serde_derive; do
     esac
 done
 if [ "${SAVE:-}" = 1 ]; then
+    texts=
     for text in canada citm_catalog github_events gsoc-2018 numbers random twitter twitterescaped; do
         for file; do [ "${file##*/}" != $text.json ] || continue 2; done
-        absent "$text.json of Boost.JSON among FILES"
+        texts="$texts $text.json"
     done
+    [ -z "$texts" ] || absent "FILES with Boost.JSON's$texts"
     [ -z "$left_out" ] || { say "SAVE=1 also needs ${left_out#, }"; exit 1; }
 fi
 [ -z "$left_out" ] || say "left out: ${left_out#, }"

@@ -101,15 +101,16 @@ def table_of_kinds(results, left_out=()):
     return rows(head, lines)
 
 
-def table_of_sizes(results, step=1):
-    ours = results.contenders("parse", ours=True)
+def table_of_sizes(results, is_brief=False):
+    """A line for each size. The brief one has every second, at the highest level."""
+    ours = [c for c in results.contenders("parse", ours=True) if not is_brief or c.endswith(f", {results.level()}")]
     base = "simdjson DOM" if results.has_simdjson() else "the fastest"
     head = ["size", f"{base}: ns per byte", *(c.removeprefix("simd_json ") for c in ours)]
     lines = [
         [shown_size(size), shown(results.base(t, "parse")), *(shown(results.ratio(t, c)) for c in ours)]
         for t, size in results.sizes.items()
     ]
-    return rows(head, lines[::step])
+    return rows(head, lines[:: 2 if is_brief else 1])
 
 
 def means(*parts, ours=True):
@@ -234,7 +235,7 @@ def main():
         f"Geometric mean of the others: {means(kinds, ours=False) or 'none is installed'}.\n\n"
         f"Over forty different texts of 24 kB of each kind, one after the other: {means(varied)}.\n\n"
         f"Cost against size, over tweets: what a byte of {whole} takes, and our speed over it.\n\n"
-        f"{table_of_sizes(sizes, 2 if documents else 1)}\n\n"
+        f"{table_of_sizes(sizes, bool(documents))}\n\n"
         f"Geometric mean over these {len(kinds.sizes)} texts and {len(sizes.sizes)} sizes: {means(kinds, sizes)}.\n\n"
         f"A log of {sum(log.sizes.values()) // 200:,} lines of 200 bytes, line by line or as one stream, and the speed over the fastest "
         f"of {'simdjson' if log.has_simdjson() else 'all'}.\n\n"
