@@ -39,6 +39,23 @@ impl<'n, 'de> Reader<'n, 'de> {
         node
     }
 
+    // The nodes after the next value.
+    #[inline]
+    fn after(&self) -> &'n [Node] {
+        let node = &self.rest[0];
+        let beneath = if node.kind >= Node::ARRAY { node.value as usize } else { 0 };
+        &self.rest[1 + beneath..]
+    }
+
+    // Reads the next value, and goes on after it also where the seed reads none or a part of it, or keeps its error to itself.
+    #[inline]
+    fn read<T: DeserializeSeed<'de>>(&mut self, seed: T) -> Result<T::Value, ReadError> {
+        let after = self.after();
+        let value = seed.deserialize(&mut *self);
+        self.rest = after;
+        value
+    }
+
     #[inline]
     fn text(&self, node: &Node) -> &'de str {
         self.texts.of(node)
@@ -107,7 +124,7 @@ impl<'n, 'de> Reader<'n, 'de> {
         if node.kind != Node::ARRAY {
             return Err(self.mismatch(node, &visitor));
         }
-        let mut members = Members { reader: self, left: node.len };
+        let mut members = Members { reader: self, left: node.len, has_value: false };
         let value = visitor.visit_seq(&mut members)?;
         members.end(node)?;
         Ok(value)
@@ -118,7 +135,7 @@ impl<'n, 'de> Reader<'n, 'de> {
         if node.kind != Node::OBJECT {
             return Err(self.mismatch(node, &visitor));
         }
-        let mut members = Members { reader: self, left: node.len };
+        let mut members = Members { reader: self, left: node.len, has_value: false };
         let value = visitor.visit_map(&mut members)?;
         members.end(node)?;
         Ok(value)
@@ -293,10 +310,7 @@ impl<'de> Deserializer<'de> for &mut Reader<'_, 'de> {
 
     #[inline]
     fn deserialize_ignored_any<V: Visitor<'de>>(self, visitor: V) -> Result<V::Value, ReadError> {
-        let node = self.take();
-        if node.kind >= Node::ARRAY {
-            self.rest = &self.rest[node.value as usize..];
-        }
+        self.rest = self.after();
         visitor.visit_unit()
     }
 }
@@ -321,6 +335,8 @@ impl<'de> Reader<'_, 'de> {
 struct Members<'r, 'n, 'de> {
     reader: &'r mut Reader<'n, 'de>,
     left: u32,
+    // whether the value of the last key is not read yet
+    has_value: bool,
 }
 
 impl Members<'_, '_, '_> {
@@ -349,7 +365,7 @@ impl<'de> SeqAccess<'de> for Members<'_, '_, 'de> {
             return Ok(None);
         }
         self.left -= 1;
-        seed.deserialize(&mut *self.reader).map(Some)
+        self.reader.read(seed).map(Some)
     }
 
     fn size_hint(&self) -> Option<usize> {
@@ -362,6 +378,10 @@ impl<'de> MapAccess<'de> for Members<'_, '_, 'de> {
 
     #[inline]
     fn next_key_seed<K: DeserializeSeed<'de>>(&mut self, seed: K) -> Result<Option<K::Value>, ReadError> {
+        if self.has_value {
+            self.reader.rest = self.reader.after();
+        }
+        self.has_value = self.left > 0;
         if self.left == 0 {
             return Ok(None);
         }
@@ -371,7 +391,11 @@ impl<'de> MapAccess<'de> for Members<'_, '_, 'de> {
 
     #[inline]
     fn next_value_seed<V: DeserializeSeed<'de>>(&mut self, seed: V) -> Result<V::Value, ReadError> {
-        seed.deserialize(&mut *self.reader)
+        if !self.has_value {
+            return Err(ReadError::custom("a value is read without its key"));
+        }
+        self.has_value = false;
+        self.reader.read(seed)
     }
 
     fn size_hint(&self) -> Option<usize> {
