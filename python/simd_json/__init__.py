@@ -95,6 +95,8 @@ class Parser(_native.Parser):
                 try:
                     value = self.loads(line)
                 except SimdJsonError as error:
+                    if error.doc is not line:  # of what a hook has parsed
+                        raise
                     error = SimdJsonError(error.msg, line, error.pos, error.reason, number,
                                           error.colno)
                     if on_error is None:
