@@ -850,6 +850,14 @@ typedef struct {
     PyObject *hooks[HOOKS];
 } parser;
 
+/* What a subclass has that does not call __init__. */
+static PyObject *parser_new(PyTypeObject *type, PyObject *args, PyObject *named) {
+    PyObject *self = PyType_GenericNew(type, args, named);
+    if (self)
+        ((parser *)self)->max_depth = 1024;
+    return self;
+}
+
 static int parser_init(PyObject *self, PyObject *args, PyObject *named) {
     static char *names[] = {"max_depth", "object_hook", "parse_float", "parse_int", "parse_constant", "object_pairs_hook", NULL};
     parser *p = (parser *)self;
@@ -975,6 +983,7 @@ static PyType_Slot parser_slots[] = {
     {Py_tp_doc, "Parser(*, max_depth=1024, object_hook=None, parse_float=None, parse_int=None, parse_constant=None,"
                 " object_pairs_hook=None)\n--\n\n"
                 "Reads one document after another with memory that is kept between them."},
+    {Py_tp_new, parser_new},
     {Py_tp_init, parser_init},
     {Py_tp_traverse, parser_traverse},
     {Py_tp_clear, parser_clear},

@@ -551,6 +551,23 @@ class Kept(unittest.TestCase):
         self.assertEqual(list(parser.lines(views, on_error=errors.append)), [{"a": 1}, [3], 6])
         self.assertEqual([place(error) for error in errors], wanted * 2)
 
+    def test_lines_that_are_no_text(self):
+        for line in (1, None, [], ["[1]"]):
+            values = simd_json.Parser().lines(["[1]", line])
+            self.assertEqual(next(values), [1])
+            with self.assertRaisesRegex(TypeError, "the JSON must be str, bytes, bytearray or memoryview"):
+                next(values)
+
+    def test_a_subclass_need_not_call_init(self):
+        class Plain(simd_json.Parser):
+            def __init__(self, name):
+                self.name = name
+
+        parser = Plain("a")
+        self.assertEqual((parser.loads('[{"b":[1.5]}]'), parser.get("", 7)), ([{"b": [1.5]}], 7))
+        self.assertEqual(by(parser.check, "[" * 1025 + "]" * 1025).reason, "DepthLimitExceeded")
+        parser.check("[" * 1024 + "]" * 1024)
+
     def test_lines_of_which_a_hook_parses_a_part(self):
         """What it finds wrong there is not the line's error."""
         def read(literal):
