@@ -98,10 +98,10 @@ using array_view = members<false>;
 using object_view = members<true>;
 
 /* A value of a document, which may be copied; a default one is null. It is valid until its parser
- * parses again or is destroyed, and as long as a string that was passed by reference is unchanged,
- * which is not tested (parser::parse). Without NDEBUG it throws std::logic_error once another parse
- * has begun; with NDEBUG it does not, since with the test loops over a large document take 4 to
- * 117 % longer. */
+ * parses again, is destroyed or has another moved into it, and as long as a string that was passed
+ * by reference is unchanged (parser::parse). Without NDEBUG it throws std::logic_error, before it
+ * reads, once its parser has begun another parse; with NDEBUG it does not, since with the test
+ * loops over a large document take 4 to 117 % longer. The rest is not tested. */
 class element {
     template <class T>
     static constexpr bool is_index = (std::is_integral_v<T> || std::is_enum_v<T>)
@@ -228,8 +228,9 @@ private:
     }
     bool holds_text() const { return kind() >= SIMD_JSON_I128 && kind() <= SIMD_JSON_STRING; }
     std::optional<element> named(decltype(simd_json_key) call, std::string_view name) const {
-        const size_t at = call(&node(), simd_json_next(node_, 0), document_->text,
-                               document_->text_len, 0, name.data(), name.size());
+        const simd_json_node *const of = &node(); /* before it is read, as an argument may be first */
+        const size_t at = call(of, simd_json_next(of, 0), document_->text, document_->text_len, 0,
+                               name.data(), name.size());
         return at == SIMD_JSON_NO_NODE ? std::nullopt : std::optional(ahead(at));
     }
     element after() const { return ahead(simd_json_next(&node(), 0)); }
@@ -272,8 +273,8 @@ public:
                 return at_;
         }
         iterator &operator++() {
-            left_--;
             at_ = is_object ? at_.after().after() : at_.after();
+            left_--;
             return *this;
         }
         iterator operator++(int) {

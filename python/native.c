@@ -626,6 +626,17 @@ static int are_right(arguments *given, PyObject *parse_constant) {
     return given->max_depth >= 0;
 }
 
+/* The hooks are held while they may be called: what they came in, a dict of keywords or a parser, may lose them meanwhile. */
+static void keep(const arguments *given) {
+    for (int i = 0; i < HOOKS; i++)
+        Py_XINCREF(given->hooks[i]);
+}
+
+static void let_go(const arguments *given) {
+    for (int i = 0; i < HOOKS; i++)
+        Py_XDECREF(given->hooks[i]);
+}
+
 /* Without hooks nothing that is being made is garbage, so collections would look through it in vain. No code of users runs, and
  * no other thread, since the interpreter's lock is held: nobody sees that the collector is off. */
 static PyObject *build_any(memory *m, PyObject **hooks) {
@@ -777,14 +788,17 @@ static void keep_little(void) {
 
 static PyObject *loads(PyObject *module, PyObject *args, PyObject *named) {
     (void)module;
-    static char *names[] = {"", "object_hook", "parse_float", "parse_int", "parse_constant", "object_pairs_hook", "max_depth", NULL};
+    /* First what may call code of users, which is then over before the others are taken. */
+    static char *names[] = {"", "max_depth", "object_hook", "parse_float", "parse_int", "parse_constant", "object_pairs_hook", NULL};
     arguments given = {NULL, {NULL}, 1024};
     PyObject **hooks = given.hooks, *parse_constant = NULL;
-    if (!PyArg_ParseTupleAndKeywords(args, named, "O|$OOOOOn:loads", names, &given.data, &hooks[OBJECT_HOOK], &hooks[PARSE_FLOAT],
-                                     &hooks[PARSE_INT], &parse_constant, &hooks[OBJECT_PAIRS_HOOK], &given.max_depth) ||
+    if (!PyArg_ParseTupleAndKeywords(args, named, "O|$nOOOOO:loads", names, &given.data, &given.max_depth, &hooks[OBJECT_HOOK],
+                                     &hooks[PARSE_FLOAT], &hooks[PARSE_INT], &parse_constant, &hooks[OBJECT_PAIRS_HOOK]) ||
         !are_right(&given, parse_constant))
         return NULL;
+    keep(&given);
     PyObject *value = loads_in(&shared, &given);
+    let_go(&given);
     keep_little();
     return value;
 }
@@ -800,23 +814,33 @@ static PyObject *check(PyObject *module, PyObject *args, PyObject *named) {
     return none;
 }
 
+/* The value that a pointer names in the input, or `none`. */
+static PyObject *get_once(PyObject *pointer, PyObject *none, arguments *given) {
+    memory own = {0};
+    memory *m = shared.in_use ? &own : &shared;
+    m->in_use = 1; /* while it is indexed other threads may run */
+    int is_indexed = index_in(m, given->data, (size_t)given->max_depth);
+    m->in_use = 0;
+    PyObject *value = is_indexed ? get_in(m, m, pointer, none, given) : NULL;
+    if (m == &own)
+        release(m);
+    keep_little();
+    return value;
+}
+
 static PyObject *get(PyObject *module, PyObject *args, PyObject *named) {
     (void)module;
     static char *names[] = {"", "", "default", "max_depth", NULL};
     arguments given = {NULL, {NULL}, 1024};
-    PyObject *pointer, *none = Py_None;
-    if (!PyArg_ParseTupleAndKeywords(args, named, "OO|O$n:get", names, &given.data, &pointer, &none, &given.max_depth) ||
-        !are_right(&given, NULL))
+    PyObject *pointer, *none = Py_None, *max_depth = NULL, *value = NULL;
+    if (!PyArg_ParseTupleAndKeywords(args, named, "OO|O$O:get", names, &given.data, &pointer, &none, &max_depth))
         return NULL;
-    memory own = {0};
-    memory *m = shared.in_use ? &own : &shared;
-    m->in_use = 1; /* while it is indexed other threads may run */
-    int is_indexed = index_in(m, given.data, (size_t)given.max_depth);
-    m->in_use = 0;
-    PyObject *value = is_indexed ? get_in(m, m, pointer, none, &given) : NULL;
-    if (m == &own)
-        release(m);
-    keep_little();
+    Py_INCREF(none); /* which its dict may lose when code of users or other threads run */
+    if (max_depth)
+        given.max_depth = PyNumber_AsSsize_t(max_depth, PyExc_OverflowError);
+    if (!PyErr_Occurred() && are_right(&given, NULL))
+        value = get_once(pointer, none, &given);
+    Py_DECREF(none);
     return value;
 }
 
@@ -825,6 +849,14 @@ typedef struct {
     Py_ssize_t max_depth;
     PyObject *hooks[HOOKS];
 } parser;
+
+/* What a subclass has that does not call __init__. */
+static PyObject *parser_new(PyTypeObject *type, PyObject *args, PyObject *named) {
+    PyObject *self = PyType_GenericNew(type, args, named);
+    if (self)
+        ((parser *)self)->max_depth = 1024;
+    return self;
+}
 
 static int parser_init(PyObject *self, PyObject *args, PyObject *named) {
     static char *names[] = {"max_depth", "object_hook", "parse_float", "parse_int", "parse_constant", "object_pairs_hook", NULL};
@@ -836,8 +868,7 @@ static int parser_init(PyObject *self, PyObject *args, PyObject *named) {
         !are_right(&given, parse_constant))
         return -1;
     memcpy(old, p->hooks, sizeof old);
-    for (int i = 0; i < HOOKS; i++)
-        Py_XINCREF(hooks[i]);
+    keep(&given);
     memcpy(p->hooks, hooks, sizeof old);
     p->max_depth = given.max_depth;
     for (int i = 0; i < HOOKS; i++)
@@ -877,14 +908,12 @@ static arguments begin_call(PyObject *self, PyObject *data) {
     arguments given = {data, {NULL}, p->max_depth};
     Py_INCREF(self);
     memcpy(given.hooks, p->hooks, sizeof given.hooks);
-    for (int i = 0; i < HOOKS; i++)
-        Py_XINCREF(given.hooks[i]);
+    keep(&given);
     return given;
 }
 
 static PyObject *end_call(PyObject *self, arguments *given, PyObject *value) {
-    for (int i = 0; i < HOOKS; i++)
-        Py_XDECREF(given->hooks[i]);
+    let_go(given);
     Py_DECREF(self);
     return value;
 }
@@ -954,6 +983,7 @@ static PyType_Slot parser_slots[] = {
     {Py_tp_doc, "Parser(*, max_depth=1024, object_hook=None, parse_float=None, parse_int=None, parse_constant=None,"
                 " object_pairs_hook=None)\n--\n\n"
                 "Reads one document after another with memory that is kept between them."},
+    {Py_tp_new, parser_new},
     {Py_tp_init, parser_init},
     {Py_tp_traverse, parser_traverse},
     {Py_tp_clear, parser_clear},

@@ -28,17 +28,30 @@ done
 grep -E '^(parse|indexes)[:0-9]* .* => ' "$top/CONTRIBUTING.md" > "$room/rows"
 "$top/crates/simd_json_rows/out/simd_json_rows" < "$room/rows" | diff -U 0 "$room/rows" - || different=1
 
-# Completion in bash knows the modes of jtape, and each option that a program's help prints.
+# Completion in bash knows the modes of jtape, and each option that a program's help prints; so does its manual, in the list and, but
+# for help and version, in the synopsis.
 for program in jcheck jpick log_report; do
-    "$room/build/$program" --help | grep -oE -- '(^| )--[a-z-]+' | tr -d ' ' | sort -u | sed "s/^/$program /"
-done > "$room/options"
+    "$room/build/$program" --help | grep -oE -- '^ +(-[a-zA-Z], )?--[a-z-]+' | sed "s/^ */$program /" >> "$room/helped"
+    sed -nE "s/^[.]It Fl (([a-zA-Z]) , Fl )?(-[a-z-]+).*/$program -\2, -\3/p" "$top/man/$program.1" | sed 's/ -,//' >> "$room/listed"
+    awk -v program="$program" '/^[.]Op Fl/ {
+        for (i = 3; i <= NF && $i != "Ar"; i++)
+            if ($i ~ /^-/) print program, "-" $i
+            else for (at = 1; at <= length($i) && $i != "|"; at++) print program, "-" substr($i, at, 1)
+    }' "$top/man/$program.1" >> "$room/synopses"
+done
+sort "$room/listed" > "$room/found" && sort "$room/helped" | diff -U 0 - "$room/found" || different=1
+sort "$room/synopses" > "$room/found"
+grep -vE -- '--(help|version)$' "$room/helped" | sed 's/, .*//' | sort | diff -U 0 - "$room/found" || different=1
+sed 's/ -[a-zA-Z],//' "$room/helped" | sort > "$room/options"
+# In a manual a word between quotes loses them, unless they are written otherwise.
+grep -nE '^[.](Dl|D1|Ql) .* "' "$top"/man/*.1 && different=1
 bash -c '. "$1"
     for program in jcheck jpick log_report; do
         _simd_json $program -- $program
         printf "$program %s\n" "${COMPREPLY[@]}"
     done
-    COMP_CWORD=1 && _simd_json jtape co jtape && echo "jtape ${COMPREPLY[*]}"' - "$top/completions/simd_json.bash" > "$room/completed"
-{ cat "$room/options"; echo 'jtape compact'; } | diff -U 0 - "$room/completed" || different=1
+    COMP_CWORD=1 && _simd_json jtape "" jtape && printf "jtape %s\n" "${COMPREPLY[@]}"' - "$top/completions/simd_json.bash" > "$room/completed"
+{ cat "$room/options"; sed -n 's/^[.]It Cm /jtape /p' "$top/man/jtape.1"; } | diff -U 0 - "$room/completed" || different=1
 
 # Commands of rt and make, scripts and files that these pages name.
 rt help > "$room/help" 2>&1

@@ -54,9 +54,10 @@ mkfifo "$room/lines"
 running=$!
 exec 3<> "$room/lines"
 printf '1\n[1,]\n"a' >&3
-for _ in 1 2 3 4 5 6 7 8 9 10; do
-    [ -s "$room/out" ] && break
-    sleep 1
+looks=0
+until [ -s "$room/out" ] || [ $looks = 600 ]; do # a minute, where the machine is loaded
+    sleep 0.1
+    looks=$((looks + 1))
 done
 status=1
 wanted 'a line before the next one' 1 "$room/lines:2:4: expected a value"

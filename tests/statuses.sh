@@ -209,9 +209,13 @@ if [ -w /dev/full ]; then
     wanted 'a report on a full disk' 3 '' 'log_report: standard output: writing failed\n'
 fi
 : > "$room/out"
+# gone: waits until the reader of standard output has closed it.
+gone() {
+    (trap '' PIPE; while printf ' '; do :; done) 2> /dev/null
+}
 # closed INPUT: counts the lines of the input, a format of printf, for a reader that has closed the report.
 closed() {
-    { sleep 0.2; printf "$1" | "$program" k 2> "$room/err"; echo $? > "$room/status"; } | :
+    { gone; printf "$1" | "$program" k 2> "$room/err"; echo $? > "$room/status"; } | :
     status=$(cat "$room/status")
 }
 closed '{"k":1}\n{"k":2}\n'
@@ -440,7 +444,7 @@ for option in --color=never --lines; do
         said "a full disk, jcheck $option" 3 'jcheck: standard output: '
     fi
     : > "$room/out"
-    { sleep 0.2; echo '[1,]' | "$program" "$option" 2> "$room/err"; echo $? > "$room/status"; } | :
+    { gone; echo '[1,]' | "$program" "$option" 2> "$room/err"; echo $? > "$room/status"; } | :
     status=$(cat "$room/status")
     wanted "a closed pipe, jcheck $option" 1 '' ''
 done
@@ -457,7 +461,7 @@ for word in --help --version; do
             status=$?
             said "a full disk, $name $word" 3 "$name: standard output: "
         fi
-        { sleep 0.2; "$program" "$word" 2> "$room/err"; echo $? > "$room/status"; } | :
+        { gone; "$program" "$word" 2> "$room/err"; echo $? > "$room/status"; } | :
         status=$(cat "$room/status")
         wanted "a closed pipe, $name $word" 0 '' ''
     done

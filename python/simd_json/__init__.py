@@ -91,10 +91,13 @@ class Parser(_native.Parser):
         for number, line in enumerate(file, 1):
             if isinstance(line, memoryview):
                 line = bytes(line)
-            if line.strip(" \t\r\n" if isinstance(line, str) else b" \t\r\n"):
+            is_text = isinstance(line, (str, bytes, bytearray))  # else a TypeError is raised
+            if not is_text or line.strip(" \t\r\n" if isinstance(line, str) else b" \t\r\n"):
                 try:
                     value = self.loads(line)
                 except SimdJsonError as error:
+                    if error.doc is not line:  # of what a hook has parsed
+                        raise
                     error = SimdJsonError(error.msg, line, error.pos, error.reason, number,
                                           error.colno)
                     if on_error is None:

@@ -2,8 +2,11 @@
 clears what it finds of its own document, copies, collects, calls again, begins its parser again,
 drops it, changes the input, raises; so do objects that die. Four threads do it at once, with a
 parser that all of them use besides. ROUNDS says how often.
+
+What one thread does to its documents and its parser no other does, so that each call has one answer.
 """
 import copy
+import functools
 import gc
 import json
 import os
@@ -20,15 +23,21 @@ SHARED = simd_json.Parser(parse_float=str)
 
 
 LOOK = threading.RLock()  # since lists of all objects would hold each other
+HERE = threading.local()  # whose thread it is
 
 
 def is_half_made(found):
-    """Whether a list has fewer items than its length. Other threads' lists may grow or be cleared
-    between one look and the next, so that the length before and the one after both count."""
-    if type(found) is not list:
+    """Whether a list has fewer items than its length. Between two looks other threads may change it,
+    so in the end both are asked in one call, in which neither they nor the collector run."""
+    if type(found) is not list or len(gc.get_referents(found)) >= len(found):
         return False
-    before = len(found)
-    return len(gc.get_referents(found)) < min(before, len(found))
+    asked = (functools.partial(gc.get_referents, found), functools.partial(len, found))
+    gc.disable()
+    try:
+        items, length = list(map(functools.partial.__call__, asked))
+    finally:
+        gc.enable()
+    return len(items) < length
 
 
 class Rejected(Exception):
@@ -36,10 +45,12 @@ class Rejected(Exception):
 
 
 class Dying(str):
-    """A literal that is as hostile as the call that made it."""
+    """A literal that is as hostile as the thread in which it dies, which is any where that collects."""
 
     def __del__(self):
-        self.of.act()
+        hostile = getattr(HERE, "hostile", None)
+        if hostile is not None:
+            hostile.act()
 
 
 class Reader(simd_json.Parser):
@@ -101,15 +112,15 @@ class Hostile:
             self.cleared += 1
             repr(found), copy.copy(found)
             found.clear()
-        act = self.rng.randrange(40)
+        act, parser = self.rng.randrange(40), self.parser
         if act == 0:
             gc.collect()
         elif act == 1:
             self.parser = None
         elif act == 2:
             raise Rejected
-        elif act == 3 and self.parser is not None:
-            self.parser.__init__(self)
+        elif act == 3 and parser is not None:
+            parser.__init__(self)
         elif act == 4 and isinstance(self.input, bytearray):
             self.input.clear()
         elif act == 5 and isinstance(self.input, memoryview):
@@ -127,17 +138,17 @@ class Hostile:
 
     def nested(self, act):
         self.deep += 1
-        text = self.text()
+        text, parser = self.text(), self.parser
         try:
-            if act == 6 and self.parser is not None:
-                self.parser.loads(text)
+            if act == 6 and parser is not None:
+                parser.loads(text)
             elif act == 7:
                 simd_json.loads(text, parse_float=self.read, object_pairs_hook=dict)
             elif act == 8:
                 SHARED.check(text)
-            elif act == 9 and self.parser is not None:
-                self.parser.index(text)
-                self.parser.get("/1")
+            elif act == 9 and parser is not None:
+                parser.index(text)
+                parser.get("/1")
             elif act == 10:
                 simd_json.get(text, "/0")
                 self.on_demand(text)
@@ -146,11 +157,7 @@ class Hostile:
 
     def read(self, literal):
         self.act()
-        if self.rng.randrange(3):
-            return literal
-        dying = Dying(literal)
-        dying.of = self
-        return dying
+        return literal if self.rng.randrange(3) else Dying(literal)
 
     def call(self, text):
         kind = self.rng.choice([str, bytes, bytearray, memoryview])
@@ -174,12 +181,12 @@ class Hostile:
             found = self.call(text)
         except Rejected:
             return
-        # What is whole may be found, and cleared, too.
-        if self.cleared == cleared:
-            wanted = json.loads(text, parse_float=str)
-            assert self.cleared != cleared or found == wanted, (found, wanted)
+        wanted = json.loads(text, parse_float=str)
+        # What is whole may be found, and cleared, too, while it is compared as well.
+        assert found == wanted or self.cleared != cleared, (found, wanted)
 
     def run(self):
+        HERE.hostile = self
         for _ in range(ROUNDS // THREADS):
             self.round()
 
@@ -220,7 +227,8 @@ class Hostility(unittest.TestCase):
         self.addCleanup(sys.setswitchinterval, sys.getswitchinterval())
         sys.setswitchinterval(1e-3)
         self.addCleanup(setattr, sys, "unraisablehook", sys.unraisablehook)
-        sys.unraisablehook = lambda raised: self.assertIs(raised.exc_type, Rejected)
+        unraisable = []
+        sys.unraisablehook = lambda raised: unraisable.append(raised.exc_type)
         gc.freeze()  # what there is already is not looked at
         self.addCleanup(gc.unfreeze)
         failed = []
@@ -239,6 +247,7 @@ class Hostility(unittest.TestCase):
             thread.join()
         if failed:
             raise failed[0]
+        self.assertLessEqual(set(unraisable), {Rejected})
         self.assertEqual([hostile.half_made for hostile in each], [[]] * THREADS)
         self.assertGreater(min(hostile.calls for hostile in each), ROUNDS // THREADS)
         # The cache of keys, and the parser that all have used, are as before.

@@ -2,7 +2,9 @@
 
     python3 -m unittest discover python/tests     with the wheel on the path
 """
+import contextlib
 import copy
+import ctypes
 import gc
 import inspect
 import io
@@ -350,6 +352,36 @@ class Values(unittest.TestCase):
             self.assertEqual(call(), wanted)
             self.assertEqual(data, b"?" * len(text))
 
+    def test_keywords_may_be_lost_while_they_are_used(self):
+        """By a call of C's, and in a thread that _thread begins, they are in the dict of the caller."""
+        call = ctypes.pythonapi.PyObject_Call
+        call.argtypes, call.restype = [ctypes.py_object] * 3, ctypes.py_object
+
+        class Losing:
+            def __call__(self, given):
+                named.clear()
+                return given
+
+            def __index__(self):
+                named.clear()
+                return 7
+
+        for name, text in (("parse_float", "[1.5,2.5,3.5]"), ("parse_int", "[1,2,3]")):
+            named = {name: Losing()}
+            self.assertEqual(call(simd_json.loads, (text,), named), text[1:-1].split(","))
+        for name, value in (("object_hook", {"b": []}), ("object_pairs_hook", [("b", [])])):
+            named = {name: Losing()}
+            self.assertEqual(call(simd_json.loads, ('[{"b":[]},{"b":[]}]',), named), [value] * 2)
+        named = {"parse_float": lambda literal: literal + "0", "max_depth": Losing()}
+        with contextlib.suppress(TypeError):
+            self.assertEqual(call(simd_json.loads, ("[1.5]",), named), ["1.50"])
+        named = {"default": [json.loads("[[1]]")], "max_depth": Losing()}
+        self.assertEqual(call(simd_json.get, ("[]", "/0"), named), [[[1]]])
+        for wrong in (simd_json.loads, lambda text, **named: simd_json.get(text, "", **named)):
+            for depth, error in (("1", TypeError), (1 << 64, OverflowError), (-1 << 64, OverflowError), (-1, ValueError)):
+                with self.assertRaises(error):
+                    wrong("[1.5]", max_depth=depth)
+
     def test_code_of_users_sees_no_half_made_container(self):
         """Neither parse_float, nor what an object does that dies because its key comes again."""
         def is_half_made(value):
@@ -518,6 +550,39 @@ class Kept(unittest.TestCase):
         views = [memoryview(line) for line in log.splitlines(keepends=True)]
         self.assertEqual(list(parser.lines(views, on_error=errors.append)), [{"a": 1}, [3], 6])
         self.assertEqual([place(error) for error in errors], wanted * 2)
+
+    def test_lines_that_are_no_text(self):
+        for line in (1, None, [], ["[1]"]):
+            values = simd_json.Parser().lines(["[1]", line])
+            self.assertEqual(next(values), [1])
+            with self.assertRaisesRegex(TypeError, "the JSON must be str, bytes, bytearray or memoryview"):
+                next(values)
+
+    def test_a_subclass_need_not_call_init(self):
+        class Plain(simd_json.Parser):
+            def __init__(self, name):
+                self.name = name
+
+        parser = Plain("a")
+        self.assertEqual((parser.loads('[{"b":[1.5]}]'), parser.get("", 7)), ([{"b": [1.5]}], 7))
+        self.assertEqual(by(parser.check, "[" * 1025 + "]" * 1025).reason, "DepthLimitExceeded")
+        parser.check("[" * 1024 + "]" * 1024)
+
+    def test_lines_of_which_a_hook_parses_a_part(self):
+        """What it finds wrong there is not the line's error."""
+        def read(literal):
+            if literal == "2.5":
+                simd_json.check("[\n1,]")
+            return literal
+
+        parser, errors = simd_json.Parser(parse_float=read), []
+        for line in ("[2.5]", b"[2.5]", bytearray(b"[2.5]"), memoryview(b"[2.5]")):
+            values = parser.lines(["[1.5]", "[1.5", line, "[3.5]"], on_error=errors.append)
+            self.assertEqual(next(values), ["1.5"])
+            with self.assertRaises(simd_json.SimdJsonError) as caught:
+                next(values)
+            self.assertEqual((caught.exception.doc, caught.exception.pos, caught.exception.lineno), ("[\n1,]", 4, 2))
+        self.assertEqual([(error.doc, error.lineno) for error in errors], [("[1.5", 2)] * 4)
 
     def test_signatures(self):
         named = dict.fromkeys(("object_hook", "parse_float", "parse_int", "parse_constant", "object_pairs_hook"))

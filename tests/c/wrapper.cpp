@@ -20,6 +20,11 @@ template <class E, class T> static bool ends_by(T call, std::string_view words =
     return false;
 }
 
+// Whether each call says that an element is of an earlier parse.
+template <class... T> static bool are_over(T... calls) {
+    return (ends_by<std::logic_error>(calls, "simd_json: an element of an earlier parse") && ...);
+}
+
 template <class T> static bool throws(T call, int32_t status, size_t index) {
     try {
         call();
@@ -29,37 +34,43 @@ template <class T> static bool throws(T call, int32_t status, size_t index) {
     return false;
 }
 
-// What is asked of an element after another parse has begun.
+// What is asked of an element after another parse has begun. The first needs more memory for nodes
+// than there is, so that the element's are freed: with sanitizers nothing is read before it throws.
 static void end_with_their_parse() {
 #ifndef NDEBUG
     simd_json::parser parser;
     const auto root = parser.parse(R"({"a":["b"],"c":[]})");
     const auto a = root["a"];
     const auto elements = a.array();
-    auto member = root.object().begin();
-    for (const char *text : {"[1,2,3]", "[", "{\"a\":[\"b\"]}"}) {
+    const auto members = root.object();
+    std::string large = "[";
+    for (int i = 0; i < 100000; i++)
+        large += "0,";
+    for (const std::string_view text : {std::string_view(large += "0]"), std::string_view("[1,2,3]"),
+                                        std::string_view("["), std::string_view(R"({"a":["b"]})")}) {
         simd_json_place place;
         parser.try_parse(text, place);
         EXPECT(ends_by<std::logic_error>([&] { root.kind(); },
                                          "simd_json: an element of an earlier parse"));
-        EXPECT(ends_by<std::logic_error>([&] { root["a"]; })
-               && ends_by<std::logic_error>([&] { a[0]; }));
-        EXPECT(ends_by<std::logic_error>([&] { root.find("a"); })
-               && ends_by<std::logic_error>([&] { a.find(0); }));
-        EXPECT(ends_by<std::logic_error>([&] { root.pointer("/a"); })
-               && ends_by<std::logic_error>([&] { a.array(); }));
-        EXPECT(ends_by<std::logic_error>([&] { a.as_bool(); })
-               && ends_by<std::logic_error>([&] { a.as_string(); }));
-        EXPECT(ends_by<std::logic_error>([&] { a.as_int64(); })
-               && ends_by<std::logic_error>([&] { a.as_uint64(); }));
-        EXPECT(ends_by<std::logic_error>([&] { a.as_double(); })
-               && ends_by<std::logic_error>([&] { a.as_decimal(); }));
-        EXPECT(ends_by<std::logic_error>([&] { a.as_wide_integer(); })
-               && ends_by<std::logic_error>([&] { root.object(); }));
-        EXPECT(ends_by<std::logic_error>([&] { ++elements.begin(); })
-               && ends_by<std::logic_error>([&] { ++member; }));
-        EXPECT(ends_by<std::logic_error>([&] { (*elements.begin()).kind(); })
-               && ends_by<std::logic_error>([&] { *member; }));
+        EXPECT(are_over([&] { root.is_null(); }, [&] { root.is_array(); }, [&] { root.is_object(); }));
+        EXPECT(are_over([&] { root["a"]; }, [&] { root[std::string("a")]; }, [&] { a[0]; }));
+        EXPECT(are_over([&] { root.find("a"); }, [&] { a.find(0); }, [&] { root.pointer("/a"); }));
+        EXPECT(are_over([&] { root.pointer(""); }, [&] { a.pointer("/0"); }, [&] { a.find("a"); }));
+        EXPECT(are_over([&] { a.as_bool(); }, [&] { a.as_string(); }, [&] { a.as_decimal(); }));
+        EXPECT(are_over([&] { a.as_int64(); }, [&] { a.as_uint64(); }, [&] { a.as_double(); }));
+        EXPECT(are_over([&] { a.as_wide_integer(); }, [&] { a.array(); }, [&] { root.object(); }));
+        EXPECT(are_over([&] { (void)(a == 1); }, [&] { (void)(a == "b"); }, [&] { (void)(a == nullptr); }));
+        EXPECT(are_over([&] { to_string(root); }, [&] { std::ostringstream() << a; }));
+        auto element = elements.begin();
+        auto member = members.begin();
+        EXPECT(are_over([&] { ++element; }, [&] { element++; }, [&] { (*element).kind(); }));
+        EXPECT(are_over([&] { ++member; }, [&] { member++; }, [&] { *member; }));
+        // It may be handed on all the same.
+        const simd_json::element copy = a;
+        EXPECT(are_over([&] { copy.kind(); }) && elements.size() == 1 && members.size() == 2);
+        simd_json::parser to(std::move(parser));
+        EXPECT(are_over([&] { root.kind(); }, [&] { root["a"]; }, [&] { root.pointer("/a"); }));
+        parser = std::move(to);
     }
 #endif
 }

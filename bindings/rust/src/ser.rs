@@ -2,7 +2,8 @@
 use crate::value::{Tape, Value, ValueType};
 use serde::ser::{Serialize, Serializer};
 
-/// Integers as they are, of up to 128 bits; a number with a fraction or an exponent as the nearest `f64`.
+/// Integers as they are, of up to 128 bits; a number with a fraction or an exponent as the nearest `f64`. It takes stack for each
+/// container that is open, of which there are at most as many as the `Buffers` allow.
 impl Serialize for Value<'_> {
     fn serialize<S: Serializer>(&self, serializer: S) -> Result<S::Ok, S::Error> {
         match self.value_type() {

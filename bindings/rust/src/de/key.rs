@@ -72,7 +72,7 @@ impl<'de> Deserializer<'de> for Key<'de> {
     }
 
     fn deserialize_bytes<V: Visitor<'de>>(self, visitor: V) -> Result<V::Value, ReadError> {
-        visitor.visit_borrowed_bytes(self.text.as_bytes())
+        visitor.visit_borrowed_bytes(self.text.as_bytes()).map_err(|error: ReadError| error.at(self.left))
     }
 
     serde::forward_to_deserialize_any! {

@@ -1,4 +1,5 @@
-//! The nodes of a value, which are taken one after another.
+//! The nodes of a value, which are taken one after another. A type may read a part of a value, or keep its error to itself: in the
+//! end all nodes of the value are taken, so that what is read next is what comes after it.
 use super::error::ReadError;
 use super::key::Key;
 use crate::ffi::{Node, Texts};
@@ -39,6 +40,33 @@ impl<'n, 'de> Reader<'n, 'de> {
         node
     }
 
+    // Takes what lies beneath a node that is taken.
+    #[inline]
+    fn pass(&mut self, node: &Node) {
+        if node.kind >= Node::ARRAY {
+            self.rest = &self.rest[node.value as usize..];
+        }
+    }
+
+    // Takes the next value.
+    fn pass_over(&mut self) {
+        let node = self.take();
+        self.pass(node);
+    }
+
+    // Reads what lies beneath a node that is taken.
+    #[inline]
+    fn read_beneath<T>(
+        &mut self,
+        node: &Node,
+        read: impl FnOnce(&mut Self) -> Result<T, ReadError>,
+    ) -> Result<T, ReadError> {
+        let after = &self.rest[node.value as usize..];
+        let value = read(self);
+        self.rest = after;
+        value
+    }
+
     #[inline]
     fn text(&self, node: &Node) -> &'de str {
         self.texts.of(node)
@@ -62,8 +90,9 @@ impl<'n, 'de> Reader<'n, 'de> {
     }
 
     #[cold]
-    fn mismatch(&self, node: &Node, expected: &dyn serde::de::Expected) -> ReadError {
+    fn mismatch(&mut self, node: &Node, expected: &dyn serde::de::Expected) -> ReadError {
         let wide;
+        self.pass(node);
         let found = match node.kind {
             Node::NULL => Unexpected::Unit,
             Node::BOOL => Unexpected::Bool(node.value != 0),
@@ -82,7 +111,7 @@ impl<'n, 'de> Reader<'n, 'de> {
     }
 
     // An integer beyond 64 bits.
-    fn visit_wide<V: Visitor<'de>>(&self, node: &Node, visitor: V) -> Result<V::Value, ReadError> {
+    fn visit_wide<V: Visitor<'de>>(&mut self, node: &Node, visitor: V) -> Result<V::Value, ReadError> {
         let literal = self.text(node);
         match (literal.parse(), literal.parse()) {
             (Ok(number), _) => visitor.visit_i128(number),
@@ -92,7 +121,7 @@ impl<'n, 'de> Reader<'n, 'de> {
     }
 
     #[inline]
-    fn visit_number<V: Visitor<'de>>(&self, node: &Node, visitor: V) -> Result<V::Value, ReadError> {
+    fn visit_number<V: Visitor<'de>>(&mut self, node: &Node, visitor: V) -> Result<V::Value, ReadError> {
         match node.kind {
             Node::U64 => visitor.visit_u64(node.value),
             Node::I64 => visitor.visit_i64(node.value as i64),
@@ -107,10 +136,12 @@ impl<'n, 'de> Reader<'n, 'de> {
         if node.kind != Node::ARRAY {
             return Err(self.mismatch(node, &visitor));
         }
-        let mut members = Members { reader: self, left: node.len };
-        let value = visitor.visit_seq(&mut members)?;
-        members.end(node)?;
-        Ok(value)
+        self.read_beneath(node, |reader| {
+            let mut members = Members { reader, left: node.len, value: usize::MAX };
+            let value = visitor.visit_seq(&mut members)?;
+            members.end(node)?;
+            Ok(value)
+        })
     }
 
     #[inline]
@@ -118,10 +149,12 @@ impl<'n, 'de> Reader<'n, 'de> {
         if node.kind != Node::OBJECT {
             return Err(self.mismatch(node, &visitor));
         }
-        let mut members = Members { reader: self, left: node.len };
-        let value = visitor.visit_map(&mut members)?;
-        members.end(node)?;
-        Ok(value)
+        self.read_beneath(node, |reader| {
+            let mut members = Members { reader, left: node.len, value: usize::MAX };
+            let value = visitor.visit_map(&mut members)?;
+            members.end(node)?;
+            Ok(value)
+        })
     }
 }
 
@@ -285,18 +318,17 @@ impl<'de> Deserializer<'de> for &mut Reader<'_, 'de> {
     ) -> Result<V::Value, ReadError> {
         self.visit(visitor, |reader, node, visitor| match node.kind {
             Node::STRING => visitor.visit_enum(BorrowedStrDeserializer::new(reader.text(node))),
-            Node::OBJECT if node.len == 1 => visitor.visit_enum(reader),
-            Node::OBJECT => Err(ReadError::invalid_value(Unexpected::Map, &"an object with one key")),
+            Node::OBJECT => reader.read_beneath(node, |reader| match node.len {
+                1 => visitor.visit_enum(reader),
+                _ => Err(ReadError::invalid_value(Unexpected::Map, &"an object with one key")),
+            }),
             _ => Err(reader.mismatch(node, &"string or map")),
         })
     }
 
     #[inline]
     fn deserialize_ignored_any<V: Visitor<'de>>(self, visitor: V) -> Result<V::Value, ReadError> {
-        let node = self.take();
-        if node.kind >= Node::ARRAY {
-            self.rest = &self.rest[node.value as usize..];
-        }
+        self.pass_over();
         visitor.visit_unit()
     }
 }
@@ -321,9 +353,35 @@ impl<'de> Reader<'_, 'de> {
 struct Members<'r, 'n, 'de> {
     reader: &'r mut Reader<'n, 'de>,
     left: u32,
+    // how many nodes there are from the value on that is to be read; where it is read there are fewer
+    value: usize,
 }
 
 impl Members<'_, '_, '_> {
+    // Whether there is a member more. A value that was not read is passed over.
+    #[inline]
+    fn next(&mut self) -> bool {
+        if self.is_unread() {
+            self.pass_unread();
+        }
+        if self.left == 0 {
+            return false;
+        }
+        self.left -= 1;
+        true
+    }
+
+    #[inline]
+    fn is_unread(&self) -> bool {
+        self.reader.rest.len() == self.value
+    }
+
+    #[cold]
+    #[inline(never)]
+    fn pass_unread(&mut self) {
+        self.reader.pass_over();
+    }
+
     fn end(&self, node: &Node) -> Result<(), ReadError> {
         match self.left {
             0 => Ok(()),
@@ -345,10 +403,10 @@ impl<'de> SeqAccess<'de> for Members<'_, '_, 'de> {
 
     #[inline]
     fn next_element_seed<T: DeserializeSeed<'de>>(&mut self, seed: T) -> Result<Option<T::Value>, ReadError> {
-        if self.left == 0 {
+        if !self.next() {
             return Ok(None);
         }
-        self.left -= 1;
+        self.value = self.reader.rest.len();
         seed.deserialize(&mut *self.reader).map(Some)
     }
 
@@ -362,15 +420,19 @@ impl<'de> MapAccess<'de> for Members<'_, '_, 'de> {
 
     #[inline]
     fn next_key_seed<K: DeserializeSeed<'de>>(&mut self, seed: K) -> Result<Option<K::Value>, ReadError> {
-        if self.left == 0 {
+        if !self.next() {
             return Ok(None);
         }
-        self.left -= 1;
-        seed.deserialize(self.reader.key()).map(Some)
+        let key = self.reader.key();
+        self.value = self.reader.rest.len();
+        seed.deserialize(key).map(Some)
     }
 
     #[inline]
     fn next_value_seed<V: DeserializeSeed<'de>>(&mut self, seed: V) -> Result<V::Value, ReadError> {
+        if !self.is_unread() {
+            return Err(ReadError::custom("a value is read without its key"));
+        }
         seed.deserialize(&mut *self.reader)
     }
 
