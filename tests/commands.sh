@@ -50,8 +50,9 @@ bash -c '. "$1"
         _simd_json $program -- $program
         printf "$program %s\n" "${COMPREPLY[@]}"
     done
-    COMP_CWORD=1 && _simd_json jtape "" jtape && printf "jtape %s\n" "${COMPREPLY[@]}"' - "$top/completions/simd_json.bash" > "$room/completed"
-{ cat "$room/options"; sed -n 's/^[.]It Cm /jtape /p' "$top/man/jtape.1"; } | diff -U 0 - "$room/completed" || different=1
+    COMP_CWORD=1 && _simd_json jtape "" jtape && printf "jtape %s\n" "${COMPREPLY[@]}"
+    COMP_WORDS=(jcheck --color = a) && COMP_CWORD=3 && _simd_json jcheck a = && echo "--color=${COMPREPLY[*]}"' - "$top/completions/simd_json.bash" > "$room/completed"
+{ cat "$room/options"; sed -n 's/^[.]It Cm /jtape /p' "$top/man/jtape.1"; echo '--color=auto always'; } | diff -U 0 - "$room/completed" || different=1
 
 # Commands of rt and make, scripts and files that these pages name.
 rt help > "$room/help" 2>&1
