@@ -1,8 +1,9 @@
 # Completes the words of jtape, jcheck, jpick and log_report in bash: modes, options and their values, and else files.
 _simd_json() {
-    local words=
+    local words= option=$3
     COMPREPLY=()
-    case $3 in
+    [ "$option" != = ] || option=${COMP_WORDS[COMP_CWORD - 2]} # --color=al is three words
+    case $option in
         --color) words='auto always never' ;;
         --depth | --longest | --values | --and | --where) return ;;
     esac

@@ -228,7 +228,7 @@ private:
     }
     bool holds_text() const { return kind() >= SIMD_JSON_I128 && kind() <= SIMD_JSON_STRING; }
     std::optional<element> named(decltype(simd_json_key) call, std::string_view name) const {
-        const simd_json_node *const of = &node(); /* before it is read, as an argument may be first */
+        const simd_json_node *const of = &node(); /* tested before an argument is read */
         const size_t at = call(of, simd_json_next(of, 0), document_->text, document_->text_len, 0,
                                name.data(), name.size());
         return at == SIMD_JSON_NO_NODE ? std::nullopt : std::optional(ahead(at));

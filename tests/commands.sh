@@ -32,7 +32,8 @@ grep -E '^(parse|indexes)[:0-9]* .* => ' "$top/CONTRIBUTING.md" > "$room/rows"
 # for help and version, in the synopsis.
 for program in jcheck jpick log_report; do
     "$room/build/$program" --help | grep -oE -- '^ +(-[a-zA-Z], )?--[a-z-]+' | sed "s/^ */$program /" >> "$room/helped"
-    sed -nE "s/^[.]It Fl (([a-zA-Z]) , Fl )?(-[a-z-]+).*/$program -\2, -\3/p" "$top/man/$program.1" | sed 's/ -,//' >> "$room/listed"
+    sed -nE "s/^[.]It Fl (([a-zA-Z]) , Fl )?(-[a-z-]+).*/$program -\2, -\3/p" "$top/man/$program.1" |
+        sed 's/ -,//' >> "$room/listed"
     awk -v program="$program" '/^[.]Op Fl/ {
         for (i = 3; i <= NF && $i != "Ar"; i++)
             if ($i ~ /^-/) print program, "-" $i
@@ -50,8 +51,11 @@ bash -c '. "$1"
         _simd_json $program -- $program
         printf "$program %s\n" "${COMPREPLY[@]}"
     done
-    COMP_CWORD=1 && _simd_json jtape "" jtape && printf "jtape %s\n" "${COMPREPLY[@]}"' - "$top/completions/simd_json.bash" > "$room/completed"
-{ cat "$room/options"; sed -n 's/^[.]It Cm /jtape /p' "$top/man/jtape.1"; } | diff -U 0 - "$room/completed" || different=1
+    COMP_CWORD=1 && _simd_json jtape "" jtape && printf "jtape %s\n" "${COMPREPLY[@]}"
+    COMP_WORDS=(jcheck --color = a) && COMP_CWORD=3 && _simd_json jcheck a = && echo "--color=${COMPREPLY[*]}"' - \
+    "$top/completions/simd_json.bash" > "$room/completed"
+{ cat "$room/options"; sed -n 's/^[.]It Cm /jtape /p' "$top/man/jtape.1"; echo '--color=auto always'; } |
+    diff -U 0 - "$room/completed" || different=1
 
 # Commands of rt and make, scripts and files that these pages name.
 rt help > "$room/help" 2>&1

@@ -74,6 +74,7 @@ log='200 /index.html
 log.jsonl:3:59: expected a value, found `}`
 log.jsonl:4: no status, or no path
 200 /
+log.jsonl:6: no status, or no path
 status 1'
 prints_log() {
     prints "$1" "$log" sh -c '"$@" log.jsonl || echo "status $?"' sh "$@"

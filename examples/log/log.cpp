@@ -16,7 +16,9 @@ int main(int argc, char **argv) {
     for (size_t number = 1; std::getline(file, line); number++) {
         try {
             const auto root = parser.parse(std::string_view(line)); // a copy, so that an error has its column
-            std::cout << root["status"].as_uint64().value() << ' ' << root["path"].as_string().value() << '\n';
+            const auto status = root["status"].as_uint64().value(); // both before anything is printed
+            const auto path = root["path"].as_string().value();
+            std::cout << status << ' ' << path << '\n';
             continue;
         } catch (const simd_json::error &e) {
             std::cout << argv[1] << ':' << number << ':' << e.column() << ": " << e.reason() << '\n';

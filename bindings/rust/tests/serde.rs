@@ -1,6 +1,6 @@
 //! Types that derive `serde::Deserialize`, beside `serde_json`.
 #![cfg(feature = "serde")]
-use serde::de::DeserializeOwned;
+use serde::de::{DeserializeOwned, Deserializer, Visitor};
 use serde::{Deserialize, Serialize};
 use simd_json_proved::{
     from_slice, from_slice_mut, from_slice_mut_with, from_slice_with, from_str, to_owned_tape, Buffers, ErrorType,
@@ -195,6 +195,23 @@ fn errors_in_place_have_paths() {
     assert_eq!(from_slice_mut_with::<Vec<u8>>(&mut buffers, &mut b"[1,2]".to_vec()).unwrap(), [1, 2]);
 }
 
+/// A key that is asked for as bytes, and refused.
+#[derive(Debug, Eq, Ord, PartialEq, PartialOrd)]
+struct Refused;
+
+impl<'de> Deserialize<'de> for Refused {
+    fn deserialize<D: Deserializer<'de>>(deserializer: D) -> Result<Self, D::Error> {
+        struct Bytes;
+        impl Visitor<'_> for Bytes {
+            type Value = Refused;
+            fn expecting(&self, f: &mut std::fmt::Formatter<'_>) -> std::fmt::Result {
+                f.write_str("other bytes")
+            }
+        }
+        deserializer.deserialize_bytes(Bytes)
+    }
+}
+
 #[test]
 fn errors_have_places() {
     let text = "{\"id\": 1,\n \"a/b\": {\"~é\": [1, 2,\n  \"x\"]}}";
@@ -214,6 +231,7 @@ fn errors_have_places() {
     assert_eq!(words::<Vec<Shape>>(r#"[{"Line":[1,"2"]}]"#), "/0/Line/1: invalid type: string \"2\", expected i32 at line 1 column 13");
     assert_eq!(words::<Vec<Shape>>(r#"[[],"dot"]"#), "/0: invalid type: sequence, expected string or map at line 1 column 2");
     assert_eq!(words::<BTreeMap<u8, u8>>(r#"{"+1":1}"#), "invalid type: string \"+1\", expected u8 at line 1 column 2");
+    assert_eq!(words::<Vec<BTreeMap<Refused, u8>>>(r#"[{"a":1}]"#), "/0: invalid type: byte array, expected other bytes at line 1 column 3");
     // A document that is none.
     let error = from_slice::<Strict>(b"{\"id\":1,\n\"\\n\": }").unwrap_err();
     assert_eq!(error.to_string(), "expected a value, found `}` at line 2 column 7");

@@ -54,19 +54,6 @@ impl<'n, 'de> Reader<'n, 'de> {
         self.pass(node);
     }
 
-    // Reads what lies beneath a node that is taken.
-    #[inline]
-    fn read_beneath<T>(
-        &mut self,
-        node: &Node,
-        read: impl FnOnce(&mut Self) -> Result<T, ReadError>,
-    ) -> Result<T, ReadError> {
-        let after = &self.rest[node.value as usize..];
-        let value = read(self);
-        self.rest = after;
-        value
-    }
-
     #[inline]
     fn text(&self, node: &Node) -> &'de str {
         self.texts.of(node)
@@ -136,12 +123,11 @@ impl<'n, 'de> Reader<'n, 'de> {
         if node.kind != Node::ARRAY {
             return Err(self.mismatch(node, &visitor));
         }
-        self.read_beneath(node, |reader| {
-            let mut members = Members { reader, left: node.len, value: usize::MAX };
-            let value = visitor.visit_seq(&mut members)?;
-            members.end(node)?;
-            Ok(value)
-        })
+        let after = &self.rest[node.value as usize..];
+        let mut members = Members { reader: self, left: node.len, value: usize::MAX };
+        let (value, left) = (visitor.visit_seq(&mut members), members.left);
+        self.rest = after;
+        end(node, left, value)
     }
 
     #[inline]
@@ -149,12 +135,11 @@ impl<'n, 'de> Reader<'n, 'de> {
         if node.kind != Node::OBJECT {
             return Err(self.mismatch(node, &visitor));
         }
-        self.read_beneath(node, |reader| {
-            let mut members = Members { reader, left: node.len, value: usize::MAX };
-            let value = visitor.visit_map(&mut members)?;
-            members.end(node)?;
-            Ok(value)
-        })
+        let after = &self.rest[node.value as usize..];
+        let mut members = Members { reader: self, left: node.len, value: usize::MAX };
+        let (value, left) = (visitor.visit_map(&mut members), members.left);
+        self.rest = after;
+        end(node, left, value)
     }
 }
 
@@ -318,10 +303,15 @@ impl<'de> Deserializer<'de> for &mut Reader<'_, 'de> {
     ) -> Result<V::Value, ReadError> {
         self.visit(visitor, |reader, node, visitor| match node.kind {
             Node::STRING => visitor.visit_enum(BorrowedStrDeserializer::new(reader.text(node))),
-            Node::OBJECT => reader.read_beneath(node, |reader| match node.len {
-                1 => visitor.visit_enum(reader),
-                _ => Err(ReadError::invalid_value(Unexpected::Map, &"an object with one key")),
-            }),
+            Node::OBJECT => {
+                let after = &reader.rest[node.value as usize..];
+                let value = match node.len {
+                    1 => visitor.visit_enum(&mut *reader),
+                    _ => Err(ReadError::invalid_value(Unexpected::Map, &"an object with one key")),
+                };
+                reader.rest = after;
+                value
+            }
             _ => Err(reader.mismatch(node, &"string or map")),
         })
     }
@@ -381,12 +371,14 @@ impl Members<'_, '_, '_> {
     fn pass_unread(&mut self) {
         self.reader.pass_over();
     }
+}
 
-    fn end(&self, node: &Node) -> Result<(), ReadError> {
-        match self.left {
-            0 => Ok(()),
-            left => Err(ReadError::invalid_length(node.len as usize, &Fewer(node.len - left))),
-        }
+// What was read of a container, unless so many members of it are left.
+#[inline]
+fn end<T>(node: &Node, left: u32, value: Result<T, ReadError>) -> Result<T, ReadError> {
+    match left {
+        0 => value,
+        _ => value.and_then(|_| Err(ReadError::invalid_length(node.len as usize, &Fewer(node.len - left)))),
     }
 }
 
