@@ -2,6 +2,7 @@ pub mod Stacks
 pub mod Visits
 pub mod Segments
 pub mod Heights
+pub mod Bare
 pub mod Rooms
 pub mod Slices
 pub mod Backs
