@@ -28,7 +28,7 @@ height-append : (xs ys : List Document) → height (xs ++ ys) ≤ max (height xs
 height-append [] ys = omega arith
 height-append (d ∷ ds) ys = omega (arith, height-append ds ys)
 
-height-elements : (ds : Elements) → height (elements ds) ≤ suc (elements_depth ds)
+pub height-elements : (ds : Elements) → height (elements ds) ≤ suc (elements_depth ds)
 height-elements no_elements = omega arith
 height-elements (element d ds) = omega (arith, height-elements ds)
 
@@ -46,7 +46,7 @@ height-cond : (b : Bool) (d : Document) (o : Option Document) (n : ℕ) → dept
 height-cond true d o n here there = omega arith
 height-cond false d o n here there = there
 
-height-first : (key : List ℕ) (ms : Members) → height (option_to_list (first_with key ms)) ≤ suc (members_depth ms)
+pub height-first : (key : List ℕ) (ms : Members) → height (option_to_list (first_with key ms)) ≤ suc (members_depth ms)
 height-first key no_members = omega arith
 height-first key (member k d ms) =
     height-cond (bytes_eq k key) d (first_with key ms) (max (depth d) (members_depth ms)) (omega arith) (omega (arith, height-first key ms))

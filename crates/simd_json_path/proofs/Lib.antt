@@ -2,8 +2,10 @@ pub mod Stacks
 pub mod Visits
 pub mod Segments
 pub mod Heights
+pub mod Bare
 pub mod Rooms
 pub mod Slices
 pub mod Backs
 pub mod Equals
+pub mod Levels
 pub mod Tests

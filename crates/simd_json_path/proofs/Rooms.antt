@@ -6,16 +6,14 @@ use Rattle.std.specs.Prelude.{not, ◌&&◌, flat_map, is_some, map}
 use Rattle.std.specs.List.{list_all}
 use Rattle.std.proofs.lemmas.List.{map-append}
 use Rattle.std.proofs.lemmas.List.Folds.{list_all-append}
-use Rattle.simd_json_parts.specs.Document.{Document, array, object}
+use Rattle.simd_json_parts.specs.Document.{Document}
 use Rattle.simd_json_parts.specs.Limits.{depth}
-use Rattle.simd_json.specs.Beneath.{children}
-use Rattle.simd_json_path.specs.Paths.{followed, selected, selected_by, selected_by_all}
+use Rattle.simd_json_path.specs.Paths.{followed, selected, selected_by_all}
 use Rattle.simd_json_path.specs.Room.{are_children, entered, frames_for, is_container, selected_in, selected_within}
 use Rattle.simd_json_path.specs.declared.path.Path.{Path}
 use Rattle.simd_json_query.specs.declared.query.Segment.{Segment}
-use Rattle.simd_json_query.specs.declared.query.Selector.{Selector}
-use Rattle.simd_json_query.specs.declared.query.Selector.TheVariants as selector
 use Rattle.simd_json_path.proofs.Heights.{height, height-followed, height-selected_by_all, height-entered}
+use Rattle.simd_json_path.proofs.Bare.{bare-entered, bare-selected, scalar-children}
 use Rattle.simd_json_path.proofs.Segments.{from_node, from_node-step, nodes-each, flat_map-same}
 
 -- ---- all are there
@@ -125,45 +123,12 @@ module _ (root : Document) where
       ∙ ap (λ xs. all (from_node root ss d) ++ xs) (whole-each room ss same ds parts.1)
       ∙ sym (map-append Some (from_node root ss d) (flat_map (from_node root ss) ds))
 
-  -- nothing is selected of a scalar
-
-  scalar-children : (d : Document) → is_container d ≡ false → children d ≡ []
-  scalar-children (array ds) scalar = cc
-  scalar-children (object ms) scalar = cc
-  scalar-children _ scalar = refl
-
-  scalar-entered : (b : Bool) (d : Document) → is_container d ≡ false → entered b d ≡ []
-  scalar-entered false d scalar = refl
-  scalar-entered true d scalar = scalar-children d scalar
-
-  scalar-selected_by : (s : Selector) (d : Document) → is_container d ≡ false → selected_by root s d ≡ []
-  scalar-selected_by s (array ds) scalar = cc
-  scalar-selected_by s (object ms) scalar = cc
-  scalar-selected_by (selector.Name name) _ scalar = refl
-  scalar-selected_by selector.Wildcard _ scalar = refl
-  scalar-selected_by (selector.Index i) _ scalar = refl
-  scalar-selected_by (selector.Slice s) _ scalar = refl
-  scalar-selected_by (selector.Filter test) _ scalar = refl
-
-  scalar-selected : (ss : List Selector) (d : Document) → is_container d ≡ false → selected_by_all root ss d ≡ []
-  scalar-selected [] d scalar = refl
-  scalar-selected (s ∷ ss) d scalar =
-      ap (λ xs. xs ++ selected_by_all root ss d) (scalar-selected_by s d scalar) ∙ scalar-selected ss d scalar
-
-  pub scalar-selected_in : (room : ℕ) (s : Segment) (ss : List Segment) (d : Document) → is_container d ≡ false
-      → selected_in root room (s ∷ ss) d ≡ []
-  scalar-selected_in zero s ss d scalar = ap (λ b. cond b (None ∷ []) []) scalar
-  scalar-selected_in (suc room) s ss d scalar =
-      ap (λ ds. flat_map (selected_in root room ss) (followed s.steps.now ds)
-      ++ flat_map (selected_in root room (s ∷ ss)) (entered s.is_descendant d)) (scalar-selected s.selectors.now d scalar)
-      ∙ ap (flat_map (selected_in root room (s ∷ ss))) (scalar-entered s.is_descendant d scalar)
-
   scalar-from_node : (s : Segment) (ss : List Segment) (d : Document) → is_container d ≡ false → from_node root (s ∷ ss) d ≡ []
   scalar-from_node s ss d scalar =
       from_node-step root s ss d
       ∙ ap (λ ds. flat_map (from_node root ss) (followed s.steps.now ds)
-      ++ flat_map (from_node root (s ∷ ss)) (entered s.is_descendant d)) (scalar-selected s.selectors.now d scalar)
-      ∙ ap (flat_map (from_node root (s ∷ ss))) (scalar-entered s.is_descendant d scalar)
+      ++ flat_map (from_node root (s ∷ ss)) (entered s.is_descendant d)) (bare-selected root s.selectors.now d (scalar-children d scalar))
+      ∙ ap (flat_map (from_node root (s ∷ ss))) (bare-entered s.is_descendant d (scalar-children d scalar))
 
   -- what is left out where there is no room
   abbrev lacking : Bool → List (Option Document)

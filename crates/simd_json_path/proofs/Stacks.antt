@@ -7,11 +7,12 @@ use Rattle.std.proofs.lemmas.List.{append-nil, take-set, take_more, take_more_se
 use Rattle.std.proofs.lemmas.Bool.{eqb-true}
 use Rattle.std.proofs.Math.ListN.{set}
 use Rattle.simd_json_parts.specs.Document.{Document}
+use Rattle.simd_json.specs.Beneath.{children}
 use Rattle.simd_json_path.specs.Frames.{frame_left, frame_effort, frames_left, frames_effort}
 use Rattle.simd_json_path.specs.Room.{effort, is_container, selected_in}
 use Rattle.simd_json_path.specs.declared.frame.Frame.{Frame}
 use Rattle.simd_json_query.specs.declared.query.Segment.{Segment}
-use Rattle.simd_json_path.proofs.Rooms.{scalar-selected_in}
+use Rattle.simd_json_path.proofs.Bare.{bare-selected_in, scalar-selected_in}
 
 module _ (root : Document) where
   last-left : (room : ℕ) (fs : List Frame) (f : Frame) (size : ℕ) → size ≡ length fs + suc room
@@ -112,6 +113,11 @@ module _ (root : Document) where
   selected-scalar room [] d some scalar = cc
   selected-scalar room (s ∷ ss) d some scalar = scalar-selected_in root room s ss d scalar
 
+  pub selected-bare : (room : ℕ) (ss : List Segment) (d : Document) → (length ss == 0) ≡ false → children d ≡ []
+      → selected_in root (suc room) ss d ≡ []
+  selected-bare room [] d some bare = cc
+  selected-bare room (s ∷ ss) d some bare = bare-selected_in root room s ss d bare
+
   pub selected-full : (ss : List Segment) (d : Document) → (length ss == 0) ≡ false → is_container d ≡ true
       → selected_in root 0 ss d ≡ None ∷ []
   selected-full [] d some is = cc
@@ -139,3 +145,26 @@ not-empty (f ∷ fs) some = omega arith
 pub same-place : {A : Type 0} (f : ℕ → List Frame → A) (size size' k k' : ℕ) (fs : List Frame) → size ≡ size' → k ≡ k'
     → f size (take k fs) ≡ f size' (take k' fs)
 same-place f size size' k k' fs sizes places = ap (λ n. f n (take k fs)) sizes ∙ ap (λ n. f size' (take n fs)) places
+
+-- ---- a value of which nothing is selected is passed over
+
+module _ (root : Document) (room n : ℕ) (old new : List Frame) (size : length old ≡ n - 1 + suc room) (kept : length new ≡ length old)
+    (last : n ≡ n - 1 + 1)
+  where
+    pub passed-left : (found : List (Option Document)) → found ≡ []
+        → frames_left root (n - 1 + suc room) (take (n - 1 + 1) old) ≡ found ++ frames_left root (n - 1 + suc room) (take (n - 1 + 1) new)
+        → frames_left root (length new) (take n new) ≡ frames_left root (length old) (take n old)
+    passed-left found none step =
+        same-place (frames_left root) (length new) (n - 1 + suc room) n (n - 1 + 1) new (kept ∙ size) last
+        ∙ sym (ap (λ xs. xs ++ frames_left root (n - 1 + suc room) (take (n - 1 + 1) new)) none)
+        ∙ sym step
+        ∙ sym (same-place (frames_left root) (length old) (n - 1 + suc room) n (n - 1 + 1) old size last)
+
+    pub passed-effort : (ss : List Segment) (d : Document)
+        → frames_effort root (n - 1 + suc room) (take (n - 1 + 1) old)
+        ≡ effort root room ss d + frames_effort root (n - 1 + suc room) (take (n - 1 + 1) new)
+        → frames_effort root (length new) (take n new) < frames_effort root (length old) (take n old)
+    passed-effort ss d step =
+        let before = same-place (frames_effort root) (length old) (n - 1 + suc room) n (n - 1 + 1) old size last in
+        let after = same-place (frames_effort root) (length new) (n - 1 + suc room) n (n - 1 + 1) new (kept ∙ size) last in
+        omega (arith, before, after, effort-some root room ss d, step)

@@ -1,5 +1,5 @@
 -- When two values are equal, and when one is less than another (RFC 9535, section 2.3.5.2.2).
-use Rattle.std.specs.Prelude.{ℕ, zero, suc, List, [], ◌∷◌, ◌++◌, Bool, true, false}
+use Rattle.std.specs.Prelude.{◌≡◌, ℕ, zero, suc, List, [], ◌∷◌, ◌++◌, Bool, true, false}
 use Rattle.std.specs.Prelude.{not, ◌&&◌, ◌||◌, Option, Some, None, option_and_then, bytes_eq, pos}
 use Rattle.std.specs.Bool.{beq}
 use Rattle.std.specs.List.{list_all}
@@ -68,13 +68,22 @@ same_at same ms ns name = both_or_none same (first_with name ms) (first_with nam
 abbrev pub same_members : (Document → Document → Bool) → Members → Members → Bool
 same_members same ms ns = list_all (same_at same ms ns) (keys ms ++ keys ns)
 
+-- one level of arrays and objects; what is in them by a test
+abbrev pub compared : (Document → Document → Bool) → Document → Document → Bool
+compared same (array ds) (array es) = same_lists same (elements ds) (elements es)
+compared same (object ms) (object ns) = same_members same ms ns
+compared same d e = both same_primitives (primitive d) (primitive e)
+
+-- the comparison of the section, without a bound
+abbrev pub IsComparison : (Document → Document → Bool) → Type 0
+IsComparison same = (d e : Document) → same d e ≡ compared same d e
+
 -- down to so many levels of arrays and objects; below these, what is written in the same order with the same literals
 abbrev pub same_to : ℕ → Document → Document → Bool
 same_to zero (array ds) e = equal (array ds) e
 same_to zero (object ms) e = equal (object ms) e
-same_to (suc n) (array ds) (array es) = same_lists (same_to n) (elements ds) (elements es)
-same_to (suc n) (object ms) (object ns) = same_members (same_to n) ms ns
-same_to n d e = both same_primitives (primitive d) (primitive e)
+same_to zero d e = both same_primitives (primitive d) (primitive e)
+same_to (suc n) d e = compared (same_to n) d e
 
 unfoldable pub same : Document → Document → Bool
 same d e = same_to 128 d e

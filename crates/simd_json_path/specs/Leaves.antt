@@ -4,11 +4,20 @@ use Rattle.simd_json_parts.specs.Document.{Document}
 use Rattle.simd_json_path.specs.Paths.{followed}
 use Rattle.simd_json_path.specs.Sliced.{children_left}
 use Rattle.simd_json_path.specs.declared.leaf.Leaf.{Leaf}
+use Rattle.simd_json_path.specs.declared.leaf.Way.{Way}
+use Rattle.simd_json_path.specs.declared.leaf.Way.TheVariants as way
+use Rattle.simd_json_query.specs.declared.filter.Step.{Step}
+use Rattle.simd_json_query.specs.declared.filter.Step.TheVariants as step
 use Rattle.simd_json_query.specs.declared.query.Selector.{Selector}
 use Rattle.simd_json_query.specs.declared.query.Selector.TheVariants as selector
 
+abbrev pub way_steps : Way → List Step
+way_steps way.ToItself = []
+way_steps (way.ToName name) = step.Name name ∷ []
+way_steps (way.BySteps steps) = steps.now
+
 abbrev pub leaf_left : Leaf → List Document
-leaf_left leaf = followed leaf.steps.now (children_left leaf.children)
+leaf_left leaf = followed (way_steps leaf.way) (children_left leaf.children)
 
 abbrev pub is_wildcard : List Selector → Bool
 is_wildcard (selector.Wildcard ∷ []) = true

@@ -1,6 +1,7 @@
 //! The values at which segments go on, each inside the one before it.
 ghost use Rattle.std.specs.Prelude.{◌≡◌, ◌+◌, ◌<◌, ◌≤◌, ◌∷◌, ◌++◌, [], suc, ℕ, length, take};
-ghost use Rattle.std.specs.Prelude.{MatchOption, Some, map};
+ghost use Rattle.std.specs.Prelude.{MatchOption, Some, map, true};
+ghost use Rattle.simd_json.specs.Beneath.{children};
 ghost use Rattle.simd_json.specs.Viewed.{doc};
 ghost use Rattle.simd_json_parts.specs.Document.{Document};
 ghost use Rattle.simd_json_path.specs.Frames.{frames_effort, frames_left};
@@ -89,11 +90,14 @@ pub(crate) fn advance<'path, 'tape, 'input>(
         if segments.is_empty() {
             return Some(Ok(value));
         }
-        if !is_container(value) {
+        if *opened == frames.len() {
+            if is_container(value) {
+                return Some(Err(TooFewFrames));
+            }
             continue;
         }
-        if *opened == frames.len() {
-            return Some(Err(TooFewFrames));
+        if is_bare(value) {
+            continue;
         }
         if let Some(found) = Leaf::of(segments, value) {
             *leaf = found;
@@ -114,4 +118,12 @@ pub(crate) fn is_container(value: Value<'_, '_>) -> bool
     ensures { result ≡ is_container (doc value.entry) }
 {
     value.is_array() || value.is_object()
+}
+
+// Whether a value is one node: no value is in it, and it takes no frame.
+#[inline(always)]
+fn is_bare(value: Value<'_, '_>) -> bool
+    ensures { result ≡ true → children (doc value.entry) ≡ [] }
+{
+    value.nodes().len() == 1
 }

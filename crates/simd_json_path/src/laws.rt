@@ -1,8 +1,9 @@
-//! What holds of queries and frames. Each function has an empty body: its contract is the law.
-ghost use Rattle.std.specs.Prelude.{true, ◌≡◌, ◌≤◌, ℕ, Some, is_some, map};
+//! What holds of queries, frames and comparisons. Each function has an empty body: its contract is the law.
+ghost use Rattle.std.specs.Prelude.{true, ◌≡◌, ◌≤◌, ℕ, Bool, Some, is_some, map, min};
 ghost use Rattle.std.specs.List.{list_all};
 ghost use Rattle.simd_json_parts.specs.Document.{Document};
 ghost use Rattle.simd_json_parts.specs.Limits.{depth};
+ghost use Rattle.simd_json_path.specs.Comparisons.{IsComparison, same_to};
 ghost use Rattle.simd_json_path.specs.Paths.{selected};
 ghost use Rattle.simd_json_path.specs.Room.{frames_for, selected_within};
 ghost use Rattle.simd_json_path.specs.declared.path.Path.{Path};
@@ -20,4 +21,18 @@ pub fn without_an_error_nothing_is_left_out()
     ensures { (path : Path) (d : Document) (room : ℕ)
         → list_all is_some (selected_within room path d) ≡ true
         → selected_within room path d ≡ map Some (selected path d) }
+{}
+
+/// Where one of two values nests no deeper than the levels to which they are compared, they are
+/// equal exactly where RFC 9535 (section 2.3.5.2.2) says so: the bound makes no difference.
+pub fn levels_suffice()
+    ensures { (same : Document → Document → Bool) (levels : ℕ) (d e : Document)
+        → IsComparison same
+        → min (depth d) (depth e) ≤ levels
+        → same_to levels d e ≡ same d e }
+{}
+
+/// A comparison without a bound is one that goes as deep as the first of the two values nests.
+pub fn a_comparison_exists()
+    ensures { IsComparison (λ d e. same_to (depth d) d e) }
 {}

@@ -1,17 +1,28 @@
 //! What a last segment selects of one value, where its only selector is a wildcard: without a frame.
-ghost use Rattle.std.specs.Prelude.{◌≡◌};
-ghost use Rattle.simd_json_path.specs.Leaves.{is_wildcard};
+ghost use Rattle.std.specs.Prelude.{◌≡◌, option_map};
+ghost use Rattle.simd_json.specs.Viewed.{doc};
+ghost use Rattle.simd_json_path.specs.Filters.{at_steps};
+ghost use Rattle.simd_json_path.specs.Leaves.{is_wildcard, way_steps};
 
 use crate::children::Children;
 use crate::filter::follow;
 use simd_json::tape::Value;
 use simd_json_query::{Segment, Selector, Step};
 
+// Where steps lead from a child.
+#[derive(Clone, Copy)]
+pub(crate) enum Way<'path> {
+    ToItself,
+    // To the value with a name of at most 16 bytes, for which `find` is inlined.
+    ToName(&'path str),
+    BySteps(&'path [Step<'path>]),
+}
+
 // What is left of the values to which steps lead from children.
 #[derive(Clone, Copy)]
 pub(crate) struct Leaf<'path, 'tape, 'input> {
     children: Children<'tape, 'input>,
-    steps: &'path [Step<'path>],
+    way: Way<'path>,
 }
 
 impl<'path, 'tape, 'input> Leaf<'path, 'tape, 'input> {
@@ -27,7 +38,7 @@ impl<'path, 'tape, 'input> Leaf<'path, 'tape, 'input> {
     {
         Leaf {
             children: Children::Nothing,
-            steps: &[],
+            way: Way::ToItself,
         }
     }
 
@@ -42,7 +53,7 @@ impl<'path, 'tape, 'input> Leaf<'path, 'tape, 'input> {
         if others.is_empty() && !segment.is_descendant && is_wildcard(segment.selectors) {
             return Some(Leaf {
                 children: Children::of(value),
-                steps: segment.steps,
+                way: way_by(segment.steps),
             });
         }
         None
@@ -53,12 +64,49 @@ impl<'path, 'tape, 'input> Leaf<'path, 'tape, 'input> {
         ensures { YieldsFirstBy doc leaf_left self.old result self.new }
     {
         'children: while let Some(child) = self.children.next() {
-            if let Some(reached) = follow(self.steps, child) {
+            if let Some(reached) = reached(self.way, child) {
                 return Some(reached);
             }
         }
         None
     }
+}
+
+#[inline(always)]
+fn way_by<'path>(steps: &'path [Step<'path>]) -> Way<'path>
+    ensures { way_steps result ≡ steps.now }
+{
+    let Some((first, others)) = steps.split_first() else {
+        return Way::ToItself;
+    };
+    if let Step::Name(name) = first {
+        if others.is_empty() && name.len() <= 16 {
+            return Way::ToName(name);
+        }
+    }
+    Way::BySteps(steps)
+}
+
+#[inline(always)]
+fn reached<'tape, 'input>(way: Way<'_>, child: Value<'tape, 'input>) -> Option<Value<'tape, 'input>>
+    ensures { option_map doc result ≡ at_steps (way_steps way.entry) (doc child.entry) }
+{
+    match way {
+        Way::ToItself => Some(child),
+        Way::ToName(name) => child.as_object()?.find(name),
+        Way::BySteps(steps) => Some(follow_steps(steps, child)?),
+    }
+}
+
+// `follow`, not inlined.
+#[inline(never)]
+fn follow_steps<'tape, 'input>(
+    steps: &[Step<'_>],
+    child: Value<'tape, 'input>,
+) -> Option<Value<'tape, 'input>>
+    ensures { option_map doc result ≡ at_steps steps.now (doc child.entry) }
+{
+    follow(steps, child)
 }
 
 // Whether the only selector is a wildcard.

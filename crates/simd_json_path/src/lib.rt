@@ -56,8 +56,9 @@
 //! # What is proved
 //!
 //! [`Path::select`] returns exactly what the definitions of `specs/` select, each a section of the
-//! RFC, in order, with duplicates. [`laws`] states how many frames suffice, and that without an
-//! error nothing is left out.
+//! RFC, in order, with duplicates. [`laws`] states how many frames suffice, that without an error
+//! nothing is left out, and that two values of which one nests at most 128 levels are equal exactly
+//! where the RFC says so.
 #![tactic(auto)]
 
 mod back;

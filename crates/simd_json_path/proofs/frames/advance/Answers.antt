@@ -4,7 +4,7 @@ use Rattle.simd_json.specs.Viewed.{doc}
 use Rattle.simd_json_path.specs.Frames.{frames_effort, frames_left}
 use Rattle.simd_json_path.specs.Leaves.{leaf_left}
 use Rattle.simd_json_path.specs.Room.{selected_in}
-use Rattle.simd_json_path.proofs.Stacks.{selected-here, selected-scalar, selected-full, effort-some, same-place}
+use Rattle.simd_json_path.proofs.Stacks.{selected-here, selected-bare, selected-scalar, selected-full, same-place, passed-left, passed-effort}
 use Rattle.simd_json_path.proofs.frames.advance.Goals as goal
 
 -- ---- the innermost frame is finished
@@ -63,49 +63,10 @@ returns-then-is_empty-clause-left c =
     (sym (same-place (frames_left root) (length new) (n - 1 + suc room) n (n - 1 + 1) new (kept ∙ size) last)
     ∙ sym (ap (λ xs. map Some xs ++ frames_left root (length new) (take n new)) c.frames.invariant.none))
 
--- ---- or a scalar, of which nothing is selected
-
-pub frames-smaller-then-not-is_container : goal.frames-smaller-then-not-is_container
-frames-smaller-then-not-is_container c =
-    let root = doc c.args.root in
-    let n = c.frames.opened in
-    let old = c.frames.frames in
-    let new = c.step.new.frames in
-    let room = length old - n in
-    let kept : length new ≡ length old = c.step.auto.frames in
-    let size : length old ≡ n - 1 + suc room = omega arith in
-    let last : n ≡ n - 1 + 1 = omega arith in
-    let some = effort-some root room c.in-Some.segments.now (doc c.in-Some.value) in
-    let before = same-place (frames_effort root) (length old) (n - 1 + suc room) n (n - 1 + 1) old size last in
-    let after = same-place (frames_effort root) (length new) (n - 1 + suc room) n (n - 1 + 1) new (kept ∙ size) last in
-    omega (arith, before, after, some, c.in-Some.ensures.effort room)
-
-pub frames-preserved-then-not-is_container : goal.frames-preserved-then-not-is_container
-frames-preserved-then-not-is_container c =
-    let root = doc c.args.root in
-    let n = c.frames.opened in
-    let old = c.frames.frames in
-    let new = c.step.new.frames in
-    let room = length old - n in
-    let kept : length new ≡ length old = c.step.auto.frames in
-    let size : length old ≡ n - 1 + suc room = omega arith in
-    let last : n ≡ n - 1 + 1 = omega arith in
-    let none = selected-scalar root room c.in-Some.segments.now (doc c.in-Some.value)
-    (sym c.is_empty.ensures ∙ c.if-is_empty.false) (sym c.is_container.ensures ∙ c.if-not-is_container.true) in
-    record {
-      none = c.frames.invariant.none;
-      within = omega arith;
-      left = same-place (frames_left root) (length new) (n - 1 + suc room) n (n - 1 + 1) new (kept ∙ size) last
-          ∙ sym (ap (λ xs. xs ++ frames_left root (n - 1 + suc room) (take (n - 1 + 1) new)) none)
-          ∙ sym (c.in-Some.ensures.left room)
-          ∙ sym (same-place (frames_left root) (length old) (n - 1 + suc room) n (n - 1 + 1) old size last)
-          ∙ c.frames.invariant.left;
-    }
-
 -- ---- or one for which no frame is left
 
-pub returns-then-opened-frames-clause-left : goal.returns-then-opened-frames-clause-left
-returns-then-opened-frames-clause-left c =
+pub returns-then-is_container-clause-left : goal.returns-then-is_container-clause-left
+returns-then-is_container-clause-left c =
     let root = doc c.args.root in
     let n = c.frames.opened in
     let old = c.frames.frames in
@@ -114,7 +75,7 @@ returns-then-opened-frames-clause-left c =
     let size : length old ≡ n - 1 + suc 0 = omega arith in
     let last : n ≡ n - 1 + 1 = omega arith in
     let full = selected-full root c.in-Some.segments.now (doc c.in-Some.value)
-    (sym c.is_empty.ensures ∙ c.if-is_empty.false) (sym c.is_container.ensures ∙ c.if-not-is_container.false) in
+    (sym c.is_empty.ensures ∙ c.if-is_empty.false) (sym c.is_container.ensures ∙ c.if-is_container.true) in
     sym c.frames.invariant.left
     ∙ same-place (frames_left root) (length old) (n - 1 + suc 0) n (n - 1 + 1) old size last
     ∙ c.in-Some.ensures.left 0
@@ -122,6 +83,57 @@ returns-then-opened-frames-clause-left c =
     ∙ ap (λ xs. None ∷ xs)
     (sym (same-place (frames_left root) (length new) (n - 1 + suc 0) n (n - 1 + 1) new (kept ∙ size) last)
     ∙ sym (ap (λ xs. map Some xs ++ frames_left root (length new) (take n new)) c.frames.invariant.none))
+
+-- ---- or one of which nothing is selected: a scalar, where no frame is left, and else a value of one node
+
+pub frames-smaller-then-opened-frames : goal.frames-smaller-then-opened-frames
+frames-smaller-then-opened-frames c =
+    let n = c.frames.opened in
+    let old = c.frames.frames in
+    let room = length old - n in
+    passed-effort (doc c.args.root) room n old c.step.new.frames (omega arith) c.step.auto.frames (omega arith) c.in-Some.segments.now
+    (doc c.in-Some.value) (c.in-Some.ensures.effort room)
+
+pub frames-preserved-then-opened-frames : goal.frames-preserved-then-opened-frames
+frames-preserved-then-opened-frames c =
+    let root = doc c.args.root in
+    let n = c.frames.opened in
+    let old = c.frames.frames in
+    let new = c.step.new.frames in
+    let room = length old - n in
+    let kept : length new ≡ length old = c.step.auto.frames in
+    let none = selected-scalar root room c.in-Some.segments.now (doc c.in-Some.value)
+    (sym c.is_empty.ensures ∙ c.if-is_empty.false) (sym c.is_container.ensures ∙ c.if-is_container.false) in
+    record {
+      none = c.frames.invariant.none;
+      within = omega arith;
+      left = passed-left root room n old new (omega arith) kept (omega arith) _ none (c.in-Some.ensures.left room) ∙ c.frames.invariant.left;
+    }
+
+pub frames-smaller-then-is_bare : goal.frames-smaller-then-is_bare
+frames-smaller-then-is_bare c =
+    let n = c.frames.opened in
+    let old = c.frames.frames in
+    let room = length old - n in
+    passed-effort (doc c.args.root) room n old c.step.new.frames (omega arith) c.step.auto.frames (omega arith) c.in-Some.segments.now
+    (doc c.in-Some.value) (c.in-Some.ensures.effort room)
+
+pub frames-preserved-then-is_bare : goal.frames-preserved-then-is_bare
+frames-preserved-then-is_bare c =
+    let root = doc c.args.root in
+    let n = c.frames.opened in
+    let old = c.frames.frames in
+    let new = c.step.new.frames in
+    let room = length old - n - 1 in
+    let kept : length new ≡ length old = c.step.auto.frames in
+    let none = selected-bare root room c.in-Some.segments.now (doc c.in-Some.value)
+    (sym c.is_empty.ensures ∙ c.if-is_empty.false) (c.is_bare.ensures c.if-is_bare.true) in
+    record {
+      none = c.frames.invariant.none;
+      within = omega arith;
+      left = passed-left root (suc room) n old new (omega arith) kept (omega arith) _ none (c.in-Some.ensures.left (suc room))
+          ∙ c.frames.invariant.left;
+    }
 
 -- ---- or one that is opened
 
@@ -193,18 +205,11 @@ returns-in-Some-next-clause-left c =
 
 pub frames-smaller-in-Some-of : goal.frames-smaller-in-Some-of
 frames-smaller-in-Some-of c =
-    let root = doc c.args.root in
     let n = c.frames.opened in
     let old = c.frames.frames in
-    let new = c.step.new.frames in
     let room = length old - n in
-    let kept : length new ≡ length old = c.step.auto.frames in
-    let size : length old ≡ n - 1 + suc room = omega arith in
-    let last : n ≡ n - 1 + 1 = omega arith in
-    let some = effort-some root room c.in-Some.segments.now (doc c.in-Some.value) in
-    let before = same-place (frames_effort root) (length old) (n - 1 + suc room) n (n - 1 + 1) old size last in
-    let after = same-place (frames_effort root) (length new) (n - 1 + suc room) n (n - 1 + 1) new (kept ∙ size) last in
-    omega (arith, before, after, some, c.in-Some.ensures.effort room)
+    passed-effort (doc c.args.root) room n old c.step.new.frames (omega arith) c.step.auto.frames (omega arith) c.in-Some.segments.now
+    (doc c.in-Some.value) (c.in-Some.ensures.effort room)
 
 pub frames-preserved-in-Some-of : goal.frames-preserved-in-Some-of
 frames-preserved-in-Some-of c =
@@ -214,15 +219,10 @@ frames-preserved-in-Some-of c =
     let new = c.step.new.frames in
     let room = length old - n - 1 in
     let kept : length new ≡ length old = c.step.auto.frames in
-    let size : length old ≡ n - 1 + suc (suc room) = omega arith in
-    let last : n ≡ n - 1 + 1 = omega arith in
     let none = c.in-Some-of.ensures root room ∙ ap (λ xs. map Some xs) c.in_default-next.ensures.0 in
     record {
       none = c.in_default-next.ensures.1;
       within = omega arith;
-      left = same-place (frames_left root) (length new) (n - 1 + suc (suc room)) n (n - 1 + 1) new (kept ∙ size) last
-          ∙ sym (ap (λ xs. xs ++ frames_left root (n - 1 + suc (suc room)) (take (n - 1 + 1) new)) none)
-          ∙ sym (c.in-Some.ensures.left (suc room))
-          ∙ sym (same-place (frames_left root) (length old) (n - 1 + suc (suc room)) n (n - 1 + 1) old size last)
+      left = passed-left root (suc room) n old new (omega arith) kept (omega arith) _ none (c.in-Some.ensures.left (suc room))
           ∙ c.frames.invariant.left;
     }
