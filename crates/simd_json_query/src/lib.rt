@@ -5,6 +5,6 @@ mod filter;
 mod query;
 mod text;
 
-pub use filter::{Comparable, Comparison, Literal, SingularQuery, Step, Test};
-pub use query::{Segment, Selector, Slice};
+pub use filter::{Comparable, Comparison, Literal, Query, SingularQuery, Step, Test};
+pub use query::{Choice, Segment, Selector, Slice};
 pub use text::{PathError, PathExpected, QueryParts, read, read_filter};

@@ -3,7 +3,7 @@ ghost use Rattle.std.specs.Prelude.{◌≤◌, length, IfErr, IfOk};
 ghost use Rattle.simd_json_query.specs.Queries.{FilterText, Query};
 
 use crate::filter::{Step, Test};
-use crate::query::Segment;
+use crate::query::{Segment, Selector};
 use bumpalo::Bump;
 use std::alloc::Allocator;
 use std::fmt;
@@ -122,7 +122,10 @@ impl fmt::Display for PathError {
 impl std::error::Error for PathError {}
 
 /// The parts of a query: the steps with which it begins, and its segments.
-pub type QueryParts<'path> = (&'path [Step<'path>], &'path [Segment<'path>]);
+pub type QueryParts<'path> = (
+    &'path [Step<'path>],
+    &'path [Segment<'path, Selector<'path>>],
+);
 
 // Parentheses may be nested so deep.
 const MAX_NESTING: usize = 100;
