@@ -9,9 +9,11 @@ use Rattle.std.proofs.lemmas.List.Folds.{list_all-append}
 use Rattle.simd_json_parts.specs.Document.{Document, array, object}
 use Rattle.simd_json_parts.specs.Limits.{depth}
 use Rattle.simd_json.specs.Beneath.{children}
-use Rattle.simd_json_path.specs.Paths.{followed, selected, selected_by, selected_by_all}
+use Rattle.simd_json_path.specs.Nodes.{followed}
+use Rattle.simd_json_path.specs.Paths.{selected, selected_by, selected_by_all}
 use Rattle.simd_json_path.specs.Room.{are_children, entered, frames_for, is_container, selected_in, selected_within}
 use Rattle.simd_json_path.specs.declared.path.Path.{Path}
+use Rattle.simd_json_query.specs.declared.query.Choice.TheVariants as choice
 use Rattle.simd_json_query.specs.declared.query.Segment.{Segment}
 use Rattle.simd_json_query.specs.declared.query.Selector.{Selector}
 use Rattle.simd_json_query.specs.declared.query.Selector.TheVariants as selector
@@ -28,35 +30,38 @@ all-flat_map f [] = refl
 all-flat_map f (d ∷ ds) = ap (λ xs. all (f d) ++ xs) (all-flat_map f ds) ∙ sym (map-append Some (f d) (flat_map f ds))
 
 module _ (root : Document) where
+  abbrev from : List (Segment Selector) → Document → List Document
+  from = from_node (selected_by root)
+
   -- where all of both parts of a step are there
-  all-step : (room : ℕ) (s : Segment) (ss : List Segment) (d : Document)
+  all-step : (room : ℕ) (s : Segment Selector) (ss : List (Segment Selector)) (d : Document)
       → flat_map (selected_in root room ss) (followed s.steps.now (selected_by_all root s.selectors.now d))
-      ≡ all (flat_map (from_node root ss) (followed s.steps.now (selected_by_all root s.selectors.now d)))
+      ≡ all (flat_map (from ss) (followed s.steps.now (selected_by_all root s.selectors.now d)))
       → flat_map (selected_in root room (s ∷ ss)) (entered s.is_descendant d)
-      ≡ all (flat_map (from_node root (s ∷ ss)) (entered s.is_descendant d))
-      → selected_in root (suc room) (s ∷ ss) d ≡ all (from_node root (s ∷ ss) d)
+      ≡ all (flat_map (from (s ∷ ss)) (entered s.is_descendant d))
+      → selected_in root (suc room) (s ∷ ss) d ≡ all (from (s ∷ ss) d)
   all-step room s ss d here beneath =
       let sel = followed s.steps.now (selected_by_all root s.selectors.now d) in
       let below = entered s.is_descendant d in
       ap (λ xs. xs ++ flat_map (selected_in root room (s ∷ ss)) below) here
-      ∙ ap (λ xs. all (flat_map (from_node root ss) sel) ++ xs) beneath
-      ∙ sym (map-append Some (flat_map (from_node root ss) sel) (flat_map (from_node root (s ∷ ss)) below))
-      ∙ sym (ap all (from_node-step root s ss d))
+      ∙ ap (λ xs. all (flat_map (from ss) sel) ++ xs) beneath
+      ∙ sym (map-append Some (flat_map (from ss) sel) (flat_map (from (s ∷ ss)) below))
+      ∙ sym (ap all (from_node-step (selected_by root) s ss d))
 
   -- ---- with room enough
 
-  enough-each : (room : ℕ) (ss : List Segment)
-      → ((d : Document) → length ss + depth d ≤ room → selected_in root room ss d ≡ all (from_node root ss d))
+  enough-each : (room : ℕ) (ss : List (Segment Selector))
+      → ((d : Document) → length ss + depth d ≤ room → selected_in root room ss d ≡ all (from ss d))
       → (ds : List Document) → length ss + height ds ≤ suc room
-      → flat_map (selected_in root room ss) ds ≡ all (flat_map (from_node root ss) ds)
+      → flat_map (selected_in root room ss) ds ≡ all (flat_map (from ss) ds)
   enough-each room ss same [] enough = refl
   enough-each room ss same (d ∷ ds) enough =
       ap (λ xs. xs ++ flat_map (selected_in root room ss) ds) (same d (omega arith))
-      ∙ ap (λ xs. all (from_node root ss d) ++ xs) (enough-each room ss same ds (omega arith))
-      ∙ sym (map-append Some (from_node root ss d) (flat_map (from_node root ss) ds))
+      ∙ ap (λ xs. all (from ss d) ++ xs) (enough-each room ss same ds (omega arith))
+      ∙ sym (map-append Some (from ss d) (flat_map (from ss) ds))
 
-  enough : (room : ℕ) (ss : List Segment) (d : Document) → length ss + depth d ≤ room
-      → selected_in root room ss d ≡ all (from_node root ss d)
+  enough : (room : ℕ) (ss : List (Segment Selector)) (d : Document) → length ss + depth d ≤ room
+      → selected_in root room ss d ≡ all (from ss d)
   enough zero [] d fits = refl
   enough (suc room) [] d fits = refl
   enough zero (s ∷ ss) d fits = absurd (omega arith)
@@ -78,13 +83,13 @@ module _ (root : Document) where
   child-others true b is = cc
   child-others false b is = is
 
-  children-each : (room : ℕ) (ss : List Segment) → ((d : Document) → selected_in root room ss d ≡ all (from_node root ss d))
-      → (ds : List Document) → flat_map (selected_in root room ss) ds ≡ all (flat_map (from_node root ss) ds)
+  children-each : (room : ℕ) (ss : List (Segment Selector)) → ((d : Document) → selected_in root room ss d ≡ all (from ss d))
+      → (ds : List Document) → flat_map (selected_in root room ss) ds ≡ all (flat_map (from ss) ds)
   children-each room ss same ds =
-      flat_map-same (selected_in root room ss) (λ d. all (from_node root ss d)) same ds ∙ all-flat_map (from_node root ss) ds
+      flat_map-same (selected_in root room ss) (λ d. all (from ss d)) same ds ∙ all-flat_map (from ss) ds
 
-  children-enough : (room : ℕ) (ss : List Segment) (d : Document) → are_children ss ≡ true → length ss ≤ room
-      → selected_in root room ss d ≡ all (from_node root ss d)
+  children-enough : (room : ℕ) (ss : List (Segment Selector)) (d : Document) → are_children ss ≡ true → length ss ≤ room
+      → selected_in root room ss d ≡ all (from ss d)
   children-enough zero [] d are fits = refl
   children-enough (suc room) [] d are fits = refl
   children-enough zero (s ∷ ss) d are fits = absurd (omega arith)
@@ -95,7 +100,7 @@ module _ (root : Document) where
       all-step room s ss d
       (children-each room ss (λ e. children-enough room ss e others (omega arith)) sel)
       (ap (λ b. flat_map (selected_in root room (s ∷ ss)) (entered b d)) child
-      ∙ sym (ap (λ b. all (flat_map (from_node root (s ∷ ss)) (entered b d))) child))
+      ∙ sym (ap (λ b. all (flat_map (from (s ∷ ss)) (entered b d))) child))
 
   -- ---- without a lack
 
@@ -113,17 +118,17 @@ module _ (root : Document) where
       let both : (list_all is_some xs && list_all is_some ys) ≡ true = sym (list_all-append is_some xs ys) ∙ is in
       (both-first (list_all is_some xs) (list_all is_some ys) both, both-others (list_all is_some xs) (list_all is_some ys) both)
 
-  whole-each : (room : ℕ) (ss : List Segment)
+  whole-each : (room : ℕ) (ss : List (Segment Selector))
       → ((d : Document) → list_all is_some (selected_in root room ss d) ≡ true
-      → selected_in root room ss d ≡ all (from_node root ss d))
+      → selected_in root room ss d ≡ all (from ss d))
       → (ds : List Document) → list_all is_some (flat_map (selected_in root room ss) ds) ≡ true
-      → flat_map (selected_in root room ss) ds ≡ all (flat_map (from_node root ss) ds)
+      → flat_map (selected_in root room ss) ds ≡ all (flat_map (from ss) ds)
   whole-each room ss same [] is = refl
   whole-each room ss same (d ∷ ds) is =
       let parts = none-lacks (selected_in root room ss d) (flat_map (selected_in root room ss) ds) is in
       ap (λ xs. xs ++ flat_map (selected_in root room ss) ds) (same d parts.0)
-      ∙ ap (λ xs. all (from_node root ss d) ++ xs) (whole-each room ss same ds parts.1)
-      ∙ sym (map-append Some (from_node root ss d) (flat_map (from_node root ss) ds))
+      ∙ ap (λ xs. all (from ss d) ++ xs) (whole-each room ss same ds parts.1)
+      ∙ sym (map-append Some (from ss d) (flat_map (from ss) ds))
 
   -- nothing is selected of a scalar
 
@@ -139,10 +144,10 @@ module _ (root : Document) where
   scalar-selected_by : (s : Selector) (d : Document) → is_container d ≡ false → selected_by root s d ≡ []
   scalar-selected_by s (array ds) scalar = cc
   scalar-selected_by s (object ms) scalar = cc
-  scalar-selected_by (selector.Name name) _ scalar = refl
-  scalar-selected_by selector.Wildcard _ scalar = refl
-  scalar-selected_by (selector.Index i) _ scalar = refl
-  scalar-selected_by (selector.Slice s) _ scalar = refl
+  scalar-selected_by (selector.Choice (choice.Name name)) _ scalar = refl
+  scalar-selected_by (selector.Choice choice.Wildcard) _ scalar = refl
+  scalar-selected_by (selector.Choice (choice.Index i)) _ scalar = refl
+  scalar-selected_by (selector.Choice (choice.Slice s)) _ scalar = refl
   scalar-selected_by (selector.Filter test) _ scalar = refl
 
   scalar-selected : (ss : List Selector) (d : Document) → is_container d ≡ false → selected_by_all root ss d ≡ []
@@ -150,7 +155,7 @@ module _ (root : Document) where
   scalar-selected (s ∷ ss) d scalar =
       ap (λ xs. xs ++ selected_by_all root ss d) (scalar-selected_by s d scalar) ∙ scalar-selected ss d scalar
 
-  pub scalar-selected_in : (room : ℕ) (s : Segment) (ss : List Segment) (d : Document) → is_container d ≡ false
+  pub scalar-selected_in : (room : ℕ) (s : Segment Selector) (ss : List (Segment Selector)) (d : Document) → is_container d ≡ false
       → selected_in root room (s ∷ ss) d ≡ []
   scalar-selected_in zero s ss d scalar = ap (λ b. cond b (None ∷ []) []) scalar
   scalar-selected_in (suc room) s ss d scalar =
@@ -158,24 +163,24 @@ module _ (root : Document) where
       ++ flat_map (selected_in root room (s ∷ ss)) (entered s.is_descendant d)) (scalar-selected s.selectors.now d scalar)
       ∙ ap (flat_map (selected_in root room (s ∷ ss))) (scalar-entered s.is_descendant d scalar)
 
-  scalar-from_node : (s : Segment) (ss : List Segment) (d : Document) → is_container d ≡ false → from_node root (s ∷ ss) d ≡ []
+  scalar-from_node : (s : Segment Selector) (ss : List (Segment Selector)) (d : Document) → is_container d ≡ false → from (s ∷ ss) d ≡ []
   scalar-from_node s ss d scalar =
-      from_node-step root s ss d
-      ∙ ap (λ ds. flat_map (from_node root ss) (followed s.steps.now ds)
-      ++ flat_map (from_node root (s ∷ ss)) (entered s.is_descendant d)) (scalar-selected s.selectors.now d scalar)
-      ∙ ap (flat_map (from_node root (s ∷ ss))) (scalar-entered s.is_descendant d scalar)
+      from_node-step (selected_by root) s ss d
+      ∙ ap (λ ds. flat_map (from ss) (followed s.steps.now ds)
+      ++ flat_map (from (s ∷ ss)) (entered s.is_descendant d)) (scalar-selected s.selectors.now d scalar)
+      ∙ ap (flat_map (from (s ∷ ss))) (scalar-entered s.is_descendant d scalar)
 
   -- what is left out where there is no room
   abbrev lacking : Bool → List (Option Document)
   lacking b = cond b (None ∷ []) []
 
-  whole-zero : (s : Segment) (ss : List Segment) (d : Document) (b : Bool) → is_container d ≡ b
-      → list_all is_some (lacking b) ≡ true → lacking b ≡ all (from_node root (s ∷ ss) d)
+  whole-zero : (s : Segment Selector) (ss : List (Segment Selector)) (d : Document) (b : Bool) → is_container d ≡ b
+      → list_all is_some (lacking b) ≡ true → lacking b ≡ all (from (s ∷ ss) d)
   whole-zero s ss d true is none = cc
   whole-zero s ss d false is none = sym (ap all (scalar-from_node s ss d is))
 
-  whole : (room : ℕ) (ss : List Segment) (d : Document) → list_all is_some (selected_in root room ss d) ≡ true
-      → selected_in root room ss d ≡ all (from_node root ss d)
+  whole : (room : ℕ) (ss : List (Segment Selector)) (d : Document) → list_all is_some (selected_in root room ss d) ≡ true
+      → selected_in root room ss d ≡ all (from ss d)
   whole zero [] d none = refl
   whole (suc room) [] d none = refl
   whole zero (s ∷ ss) d none = whole-zero s ss d (is_container d) refl none
@@ -192,7 +197,7 @@ module _ (root : Document) where
 enough-within : (path : Path) (d : Document) (room : ℕ) (b : Bool) → are_children path.segments.now ≡ b
     → length path.segments.now + cond b 0 (depth d) ≤ room
     → (ds : List Document) → height ds ≤ suc (depth d)
-    → flat_map (selected_in d room path.segments.now) ds ≡ all (flat_map (from_node d path.segments.now) ds)
+    → flat_map (selected_in d room path.segments.now) ds ≡ all (flat_map (from d path.segments.now) ds)
 enough-within path d room true are fits ds low =
     children-each d room path.segments.now (λ e. children-enough d room path.segments.now e are (omega arith)) ds
 enough-within path d room false are fits ds low =
@@ -203,11 +208,11 @@ pub path-enough : (path : Path) (d : Document) (room : ℕ) → frames_for path 
 path-enough path d room fits =
     let starts = followed path.steps.now (d ∷ []) in
     enough-within path d room (are_children path.segments.now) refl fits starts (omega (arith, height-followed path.steps.now (d ∷ [])))
-    ∙ sym (ap all (nodes-each d path.segments.now starts))
+    ∙ sym (ap all (nodes-each (selected_by d) path.segments.now starts))
 
 pub path-whole : (path : Path) (d : Document) (room : ℕ) → list_all is_some (selected_within room path d) ≡ true
     → selected_within room path d ≡ map Some (selected path d)
 path-whole path d room none =
     let starts = followed path.steps.now (d ∷ []) in
     whole-each d room path.segments.now (whole d room path.segments.now) starts none
-    ∙ sym (ap all (nodes-each d path.segments.now starts))
+    ∙ sym (ap all (nodes-each (selected_by d) path.segments.now starts))

@@ -2,10 +2,12 @@
 ghost use Rattle.std.specs.Prelude.{◌≡◌, option_map};
 ghost use Rattle.simd_json.specs.Viewed.{doc};
 ghost use Rattle.simd_json_parts.specs.Views.{get};
-ghost use Rattle.simd_json_path.specs.Filters.{at_step, at_steps, holds, selected_node};
+ghost use Rattle.simd_json_path.specs.Filters.{holds, selected_node};
+ghost use Rattle.simd_json_path.specs.Nodes.{at_step, at_steps};
 
 use crate::children::at_index;
 use crate::operand::{compares, operand_of};
+use crate::queried::exists;
 use bumpalo::Bump;
 use simd_json::tape::Value;
 use simd_json_query::{PathError, SingularQuery, Step, Test, read_filter};
@@ -52,7 +54,7 @@ pub(crate) fn holds(test: &Test<'_>, root: Value<'_, '_>, node: Value<'_, '_>) -
     let mut last = test;
     'operands: loop {
         match last {
-            Test::Exists(query) => return selected_node(query, root, node).is_some(),
+            Test::Exists(query) => return exists(query, root, node),
             Test::Compare(left, comparison, right) => {
                 let left = operand_of(left, root, node);
                 return compares(left, *comparison, operand_of(right, root, node));
@@ -74,7 +76,7 @@ pub(crate) fn holds(test: &Test<'_>, root: Value<'_, '_>, node: Value<'_, '_>) -
     }
 }
 
-// The node that a query selects.
+// The node that a singular query selects.
 pub(crate) fn selected_node<'tape, 'input>(
     query: &SingularQuery<'_>,
     root: Value<'tape, 'input>,

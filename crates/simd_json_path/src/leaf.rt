@@ -5,7 +5,7 @@ ghost use Rattle.simd_json_path.specs.Leaves.{is_wildcard};
 use crate::children::Children;
 use crate::filter::follow;
 use simd_json::tape::Value;
-use simd_json_query::{Segment, Selector, Step};
+use simd_json_query::{Choice, Segment, Selector, Step};
 
 // What is left of the values to which steps lead from children.
 #[derive(Clone, Copy)]
@@ -66,5 +66,5 @@ impl<'path, 'tape, 'input> Leaf<'path, 'tape, 'input> {
 fn is_wildcard(selectors: &[Selector<'_>]) -> bool
     ensures { result ≡ is_wildcard selectors.now }
 {
-    selectors.len() == 1 && matches!(selectors[0], Selector::Wildcard)
+    selectors.len() == 1 && matches!(selectors[0], Selector::Choice(Choice::Wildcard))
 }

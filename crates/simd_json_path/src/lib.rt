@@ -72,6 +72,7 @@ mod opened;
 mod operand;
 mod path;
 mod picked;
+mod queried;
 mod same;
 mod scalar;
 mod selected;
@@ -82,6 +83,6 @@ pub use frame::Frame;
 pub use path::Path;
 pub use selected::{Selected, TooFewFrames};
 pub use simd_json_query::{
-    Comparable, Comparison, Literal, PathError, PathExpected, Segment, Selector, SingularQuery,
-    Slice, Step, Test,
+    Choice, Comparable, Comparison, Literal, PathError, PathExpected, Query, Segment, Selector,
+    SingularQuery, Slice, Step, Test,
 };

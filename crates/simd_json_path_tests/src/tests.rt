@@ -1,5 +1,7 @@
 use simd_json::to_tape;
-use simd_json_path::{Frame, Path, Segment, Selector, TooFewFrames};
+use simd_json_path::{
+    Choice, Frame, Path, Query, Segment, Selector, SingularQuery, Test, TooFewFrames,
+};
 use std::process::Abort;
 use std::test::Fail;
 
@@ -12,6 +14,30 @@ mod selectors;
 mod texts;
 
 type Tested = std::result::Result<(), Fail>;
+
+fn name(name: &str) -> Selector<'_> {
+    Selector::Choice(Choice::Name(name))
+}
+
+fn index<'path>(index: i64) -> Selector<'path> {
+    Selector::Choice(Choice::Index(index))
+}
+
+fn wildcard<'path>() -> Selector<'path> {
+    Selector::Choice(Choice::Wildcard)
+}
+
+// A query that selects at most one node.
+fn singular(start: SingularQuery<'_>) -> Query<'_> {
+    Query {
+        start,
+        segments: &[],
+    }
+}
+
+fn exists(start: SingularQuery<'_>) -> Test<'_> {
+    Test::Exists(singular(start))
+}
 
 // A child segment without steps.
 fn child<'path>(selectors: &'path [Selector<'path>]) -> Segment<'path> {

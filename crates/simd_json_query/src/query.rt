@@ -39,7 +39,7 @@ pub enum Selector<'path> {
 /// Selectors, of the children of a node or of the children of all its descendants too (section
 /// 2.5), and steps. In a filter's query each selector is a [`Choice`].
 #[derive(Clone, Copy)]
-pub struct Segment<'path, S> {
+pub struct Segment<'path, S = Selector<'path>> {
     /// Each selects of each node that the segment visits, one selector after the other.
     pub selectors: &'path [S],
     /// Whether it visits all nodes beneath a node too, and not only the node itself.
