@@ -6,4 +6,5 @@ pub mod Rooms
 pub mod Slices
 pub mod Backs
 pub mod Equals
+pub mod Sought
 pub mod Tests

@@ -9,6 +9,7 @@ mod comparisons;
 mod examples;
 mod filters;
 mod frames;
+mod queries;
 mod segments;
 mod selectors;
 mod texts;

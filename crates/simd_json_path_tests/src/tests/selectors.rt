@@ -105,7 +105,8 @@ fn slices(rt: HostRuntime) -> Tested {
 
 #[test]
 fn steps_are_segments_of_one_name_or_index(rt: HostRuntime) -> Tested {
-    let mut each = child(&[wildcard()]);
+    let all = [wildcard()];
+    let mut each = child(&all);
     each.steps = &[Step::Name("a"), Step::Index(-1)];
     let path = Path {
         steps: &[Step::Index(1), Step::Name("x")],
