@@ -59,8 +59,8 @@ and-last nesting ts t text m rest none operands test =
     let same : text ≡ m = subst (λ l. Operands (Basic (Nested nesting)) (codes "&&") l text m) none operands in
     subst (λ bs. Conjunction (Nested nesting) t bs rest) (sym same) test
 
-pub compare-basic : (N : Test → List ℕ → List ℕ → Type 0) (a b : Comparable) (op : Comparison) (text others end behind begin rest : List ℕ)
-    → ComparableText a text others → Blanks others end → OperatorText op end behind → Blanks behind begin → ComparableText b begin rest
+pub compare-basic : (N : Test → List ℕ → List ℕ → Type 0) (a b : Comparable) (op : Comparison) (text behind begin rest : List ℕ)
+    → (ComparableText a then Blanks then OperatorText op) text behind → Blanks behind begin → ComparableText b begin rest
     → Basic N (Compare a op b) text rest
-compare-basic N a b op text others end behind begin rest left before is after right =
+compare-basic N a b op text behind begin rest (others, left, (end, before, is)) after right =
     inl (others, left, (end, before, (behind, is, (begin, after, right))))

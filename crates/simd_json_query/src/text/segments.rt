@@ -1,111 +1,115 @@
-//! Segments (RFC 9535, section 2.5), and a whole query (section 2.1).
-ghost use Rattle.std.specs.Prelude.{◌<◌, ◌≤◌, [], length, IfOk};
-ghost use Rattle.simd_json_query.specs.Queries.{Member, Query, SegmentText, Segments};
+//! Segments (RFC 9535, section 2.5).
+ghost use Rattle.std.specs.Prelude.{◌<◌, ◌≤◌, length, IfOk, IfSome};
+ghost use Rattle.simd_json_query.specs.Segments.{Member, SegmentText, Segments, Shorthand};
 ghost use Rattle.simd_json_query.specs.Steps.{Steps};
 ghost use Rattle.simd_json_query.specs.Spans.{◌then◌};
 
-use crate::query::{Segment, Selector};
+use crate::query::{Choice, Segment};
+use crate::text::PathExpected;
 use crate::text::cursor::{Stop, after, next, skip_blanks};
 use crate::text::names::{begins_name, name};
-use crate::text::selectors::selection;
+use crate::text::selections::selection;
+use crate::text::spelled::Spelled;
 use crate::text::steps::steps;
-use crate::text::{PathExpected, QueryParts};
 use bumpalo::Bump;
 use bumpalo::collections::into_bump_slice;
 use std::alloc::Allocator;
 
-static WILDCARD: [Selector<'static>; 1] = [Selector::Wildcard];
-
-// The query of a text.
-pub(super) fn query<'path, A: Allocator>(
+// The segments that come first, and what is after them.
+pub(super) fn segments<'path, 't, S: Spelled<'path>, A: Allocator>(
     arena: &'path Bump<A>,
-    text: &str,
-) -> Result<QueryParts<'path>, Stop>
-    ensures { IfOk result (λ r. Query r.0.now r.1.now text.now) }
-{
-    let Some(begin) = after(text, '$') else {
-        return Err(Stop::at(text, PathExpected::Root));
-    };
-    let (steps, others) = steps(arena, begin)?;
-    Ok((steps, segments(arena, others)?))
-}
-
-// The segments of a whole text.
-fn segments<'path, A: Allocator>(
-    arena: &'path Bump<A>,
-    text: &str,
-) -> Result<&'path [Segment<'path>], Stop>
-    ensures { IfOk result (λ segments. Segments segments.now text.now []) }
+    rest: &'t str,
+) -> Result<(&'path [Segment<'path, S>], &'t str), Stop>
+    ensures segments { IfOk result (λ r. Segments S.spelled S.choice r.0.now rest.now r.1.now) }
+    ensures shorter { IfOk result (λ r. length r.1.now ≤ length rest.now) }
 {
     let mut segments = Vec::new(arena);
-    let mut left = text;
-    'segments: while !left.is_empty() {
-        let (segment, others) = segment(arena, skip_blanks(left))?;
+    let mut left = rest;
+    'segments: while let Some((segment, others)) = segment(arena, skip_blanks(left))? {
         segments.push(segment)?;
         left = others;
     }
-    Ok(into_bump_slice(segments))
+    Ok((into_bump_slice(segments), left))
 }
 
-// A segment with the steps that follow, and what is after it.
-fn segment<'path, 't, A: Allocator>(
+// A segment with the steps that follow, if one is there, and what is after it.
+fn segment<'path, 't, S: Spelled<'path>, A: Allocator>(
     arena: &'path Bump<A>,
     rest: &'t str,
-) -> Result<(Segment<'path>, &'t str), Stop>
-    ensures segment { IfOk result (λ r. (SegmentText r.0.is_descendant r.0.selectors.now
-        then Steps r.0.steps.now) rest.now r.1.now) }
-    ensures shorter { IfOk result (λ r. length r.1.now < length rest.now) }
+) -> Result<Option<(Segment<'path, S>, &'t str)>, Stop>
+    ensures segment { IfOk result (λ found. IfSome found (λ r.
+        (SegmentText S.spelled S.choice r.0.is_descendant r.0.selectors.now
+        then Steps r.0.steps.now) rest.now r.1.now)) }
+    ensures shorter { IfOk result (λ found. IfSome found (λ r. length r.1.now < length rest.now)) }
 {
-    let (selectors, is_descendant, others) = branch(arena, rest)?;
+    let Some((selectors, is_descendant, others)) = branch(arena, rest)? else {
+        return Ok(None);
+    };
     let (steps, others) = steps(arena, others)?;
-    Ok((
+    Ok(Some((
         Segment {
             selectors,
             is_descendant,
             steps,
         },
         others,
-    ))
+    )))
 }
 
-// A segment's selectors, whether it is a descendant segment, and what is after it.
-fn branch<'path, 't, A: Allocator>(
+// A segment's selectors, whether it is a descendant segment, and what is after it, if one is there.
+fn branch<'path, 't, S: Spelled<'path>, A: Allocator>(
     arena: &'path Bump<A>,
     rest: &'t str,
-) -> Result<(&'path [Selector<'path>], bool, &'t str), Stop>
-    ensures segment { IfOk result (λ r. SegmentText r.1 r.0.now rest.now r.2.now) }
-    ensures shorter { IfOk result (λ r. length r.2.now < length rest.now) }
+) -> Result<Option<(&'path [S], bool, &'t str)>, Stop>
+    ensures segment { IfOk result (λ found. IfSome found (λ r.
+        SegmentText S.spelled S.choice r.1 r.0.now rest.now r.2.now)) }
+    ensures shorter { IfOk result (λ found. IfSome found (λ r. length r.2.now < length rest.now)) }
 {
     if let Some(others) = after(rest, '[') {
         let (selectors, others) = selection(arena, others)?;
-        return Ok((selectors, false, others));
+        return Ok(Some((selectors, false, others)));
     }
     let Some(others) = after(rest, '.') else {
-        return Err(Stop::at(rest, PathExpected::Segment));
+        return Ok(None);
     };
     let Some(below) = after(others, '.') else {
         let (selectors, others) = member(arena, others, PathExpected::Member)?;
-        return Ok((selectors, false, others));
+        return Ok(Some((selectors, false, others)));
     };
     if let Some(others) = after(below, '[') {
         let (selectors, others) = selection(arena, others)?;
-        return Ok((selectors, true, others));
+        return Ok(Some((selectors, true, others)));
     }
     let (selectors, others) = member(arena, below, PathExpected::Descendants)?;
-    Ok((selectors, true, others))
+    Ok(Some((selectors, true, others)))
 }
 
-// `*` or a name without quotes.
-fn member<'path, 't, A: Allocator>(
+// `*` or a name without quotes, as a list of one selector.
+fn member<'path, 't, S: Spelled<'path>, A: Allocator>(
     arena: &'path Bump<A>,
     rest: &'t str,
     expected: PathExpected,
-) -> Result<(&'path [Selector<'path>], &'t str), Stop>
-    ensures member { IfOk result (λ r. Member r.0.now rest.now r.1.now) }
+) -> Result<(&'path [S], &'t str), Stop>
+    ensures member { IfOk result (λ r. Member S.choice r.0.now rest.now r.1.now) }
+    ensures shorter { IfOk result (λ r. length r.1.now ≤ length rest.now) }
+{
+    let (choice, others) = shorthand(arena, rest, expected)?;
+    let mut selectors = Vec::new(arena);
+    selectors.push(S::of(choice))?;
+    Ok((into_bump_slice(selectors), others))
+}
+
+// `*` or a name without quotes.
+fn shorthand<'path, 't, A: Allocator>(
+    arena: &'path Bump<A>,
+    rest: &'t str,
+    expected: PathExpected,
+) -> Result<(Choice<'path>, &'t str), Stop>
+    ensures choice { IfOk result (λ r. Shorthand r.0 rest.now r.1.now) }
     ensures shorter { IfOk result (λ r. length r.1.now ≤ length rest.now) }
 {
     if let Some(others) = after(rest, '*') {
-        return Ok((&WILDCARD, others));
+        return Ok((Choice::Wildcard, others));
     }
     let Some((first, others)) = next(rest) else {
         return Err(Stop::at(rest, expected));
@@ -114,6 +118,5 @@ fn member<'path, 't, A: Allocator>(
         return Err(Stop::at(rest, expected));
     }
     let (name, others) = name(arena, first, others)?;
-    let selectors = [Selector::Name(name)];
-    Ok((arena.try_alloc_slice_copy(&selectors)?, others))
+    Ok((Choice::Name(name), others))
 }
