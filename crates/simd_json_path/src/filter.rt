@@ -38,7 +38,8 @@ impl<'path> Filter<'path> {
     }
 
     /// Whether the value passes the test (section 2.3.5.2). It allocates nothing, and recurses no
-    /// deeper than parentheses, `!` and `length` are nested in the test.
+    /// deeper than parentheses, `!` and `length` are nested in the test; and in a query of it, once
+    /// for each of its segments, or with a descendant segment once for each level of the value.
     pub fn holds(&self, value: &Value<'_, '_>) -> bool
         ensures { result ≡ holds (doc value.now) self.now.test.now (doc value.now) }
     {
