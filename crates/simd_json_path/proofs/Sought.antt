@@ -1,23 +1,26 @@
 -- Which one of documents has an index: of a first part of them, then of the others.
-use Rattle.std.proofs.Common.{◌≡◌, ◌∙◌, ap, sym, refl, ◌<◌, ◌≤◌, ◌+◌, ◌-◌, ◌^◌, ℕ, zero, suc, min, List, [], ◌∷◌, ◌++◌, length, drop, arith}
+use Rattle.std.proofs.Common.{◌≡◌, ◌∙◌, ap, sym, refl, ◌<◌, ◌≤◌, ◌+◌, ◌-◌, ◌^◌, ℕ, zero, suc, min, List, [], ◌∷◌, ◌++◌, length, drop, get_or, arith}
 use Rattle.std.proofs.Common.{Bool, true, false, Option, Some, None, is_some}
-use Rattle.std.specs.Prelude.{nat_lt, option_map, flat_map}
+use Rattle.std.specs.Prelude.{flat_map}
 use Rattle.std.specs.ControlFlow.{break_value}
 use Rattle.std.specs.Option.{option_to_list}
 use Rattle.std.specs.declared.ops.ControlFlow.{ControlFlow}
 use Rattle.std.specs.declared.ops.ControlFlow.TheVariants.{Break, Continue}
 use Rattle.std.proofs.lemmas.Grind.{flat_map-append}
-use Rattle.std.proofs.lemmas.List.{append_assoc}
+use Rattle.std.proofs.lemmas.List.{append_assoc, drop_all, drop_more}
 use Rattle.simd_json_parts.specs.Document.{Document}
+use Rattle.simd_json_parts.specs.Limits.{depth}
+use Rattle.simd_json.specs.Beneath.{children}
 use Rattle.simd_json.specs.Viewed.{doc}
 use Rattle.simd_json.specs.declared.value.tape.value.Value.{Value}
-use Rattle.simd_json_path.specs.Filters.{only}
+use Rattle.simd_json_path.specs.Filters.{any, only}
 use Rattle.simd_json_path.specs.Nodes.{at_steps, by_all, chosen_by, followed, nodes}
 use Rattle.simd_json_path.specs.Room.{entered}
 use Rattle.simd_json_path.specs.Sought.{document_of, sought}
 use Rattle.simd_json_query.specs.declared.filter.Step.{Step}
 use Rattle.simd_json_query.specs.declared.query.Choice.{Choice}
 use Rattle.simd_json_query.specs.declared.query.Segment.{Segment}
+use Rattle.simd_json_path.proofs.Heights.{height, height-at_steps, height-children, height-chosen_by}
 use Rattle.simd_json_path.proofs.Segments.{from_node, from_node-step, nodes-append, nodes-each, nodes-none}
 
 -- ---- of a first part, then of the others
@@ -32,43 +35,86 @@ sought-left [] ys n left is = cc
 sought-left (x ∷ xs) ys zero left is = cc
 sought-left (x ∷ xs) ys (suc n) left is = sought-left xs ys n left is
 
--- ---- what segments select: of what the first one's selectors select, then of the children
+-- ---- what segments select of a node: of what the first one's selectors select, then of the children
 
-pub node-parts : (s : Segment Choice) (ss : List (Segment Choice)) (d : Document)
-    → nodes chosen_by (s ∷ ss) (d ∷ [])
-    ≡ nodes chosen_by ss (followed s.steps.now (by_all chosen_by s.selectors.now d))
-    ++ nodes chosen_by (s ∷ ss) (entered s.is_descendant d)
-node-parts s ss d =
+pub node-step : (ss : List (Segment Choice)) (s : Segment Choice) (others : List (Segment Choice)) (d : Document) → ss ≡ s ∷ others
+    → nodes chosen_by ss (d ∷ [])
+    ≡ nodes chosen_by others (followed s.steps.now (by_all chosen_by s.selectors.now d)) ++ nodes chosen_by ss (entered s.is_descendant d)
+node-step ss s others d is =
     let sel = followed s.steps.now (by_all chosen_by s.selectors.now d) in
     let below = entered s.is_descendant d in
-    from_node-step chosen_by s ss d
-    ∙ ap (λ xs. xs ++ flat_map (from_node chosen_by (s ∷ ss)) below) (sym (nodes-each chosen_by ss sel))
-    ∙ ap (λ xs. nodes chosen_by ss sel ++ xs) (sym (nodes-each chosen_by (s ∷ ss) below))
+    ap (λ zs. nodes chosen_by zs (d ∷ [])) is
+    ∙ from_node-step chosen_by s others d
+    ∙ ap (λ xs. xs ++ flat_map (from_node chosen_by (s ∷ others)) below) (sym (nodes-each chosen_by others sel))
+    ∙ ap (λ xs. nodes chosen_by others sel ++ xs) (sym (nodes-each chosen_by (s ∷ others) below))
+    ∙ ap (λ zs. nodes chosen_by others sel ++ nodes chosen_by zs below) (sym is)
 
--- of what the first selector selects, then of what the others select
-pub choice-parts : (ss : List (Segment Choice)) (steps : List Step) (c : Choice) (cs : List Choice) (d : Document) (after : List Document)
-    → nodes chosen_by ss (followed steps (by_all chosen_by (c ∷ cs) d)) ++ after
-    ≡ nodes chosen_by ss (followed steps (chosen_by c d)) ++ (nodes chosen_by ss (followed steps (by_all chosen_by cs d)) ++ after)
-choice-parts ss steps c cs d after =
+-- of what one selector selects, then of what the selectors after it select
+pub choice-step : (others : List (Segment Choice)) (steps : List Step) (cs : List Choice) (i : ℕ) (c : Choice) (d : Document)
+    (ds after : List Document) → i < length cs → ds ≡ chosen_by (get_or cs i c) d
+    → nodes chosen_by others (followed steps (by_all chosen_by (drop i cs) d)) ++ after
+    ≡ nodes chosen_by others (followed steps ds) ++ (nodes chosen_by others (followed steps (by_all chosen_by (drop (i + 1) cs) d)) ++ after)
+choice-step others steps cs i c d ds after some is =
     let on : Document → List Document = λ e. option_to_list (at_steps steps e) in
-    ap (λ xs. nodes chosen_by ss xs ++ after) (flat_map-append on (chosen_by c d) (by_all chosen_by cs d))
-    ∙ ap (λ xs. xs ++ after) (nodes-append chosen_by ss (followed steps (chosen_by c d)) (followed steps (by_all chosen_by cs d)))
-    ∙ append_assoc _ _ _
+    let first = chosen_by (get_or cs i c) d in
+    let more = by_all chosen_by (drop (i + 1) cs) d in
+    ap (λ zs. nodes chosen_by others (followed steps (by_all chosen_by zs d)) ++ after) (drop_more cs i c some)
+    ∙ ap (λ xs. nodes chosen_by others xs ++ after) (flat_map-append on first more)
+    ∙ ap (λ xs. xs ++ after) (nodes-append chosen_by others (followed steps first) (followed steps more))
+    ∙ append_assoc (nodes chosen_by others (followed steps first)) (nodes chosen_by others (followed steps more)) after
+    ∙ ap (λ xs. nodes chosen_by others (followed steps xs) ++ (nodes chosen_by others (followed steps more) ++ after)) (sym is)
 
--- of the first child, then of the others
-pub child-parts : (ss : List (Segment Choice)) (steps : List Step) (d : Document) (ds : List Document)
-    → nodes chosen_by ss (followed steps (d ∷ ds))
-    ≡ nodes chosen_by ss (option_to_list (at_steps steps d)) ++ nodes chosen_by ss (followed steps ds)
-child-parts ss steps d ds = nodes-append chosen_by ss (option_to_list (at_steps steps d)) (followed steps ds)
+pub choices-end : (others : List (Segment Choice)) (steps : List Step) (cs : List Choice) (i : ℕ) (d : Document) (after : List Document)
+    → length cs ≤ i → nodes chosen_by others (followed steps (by_all chosen_by (drop i cs) d)) ++ after ≡ after
+choices-end others steps cs i d after all =
+    ap (λ zs. nodes chosen_by others (followed steps (by_all chosen_by zs d)) ++ after) (drop_all i cs all)
+    ∙ ap (λ xs. xs ++ after) (nodes-none chosen_by others)
 
-pub followed-none : (ds : List Document) → followed [] ds ≡ ds
+followed-none : (ds : List Document) → followed [] ds ≡ ds
 followed-none [] = refl
 followed-none (d ∷ ds) = ap (λ xs. d ∷ xs) (followed-none ds)
+
+pub below-step : (ss : List (Segment Choice)) (b : Bool) (d : Document) (ds : List Document) → b ≡ true → ds ≡ children d
+    → nodes chosen_by ss (followed [] ds) ≡ nodes chosen_by ss (entered b d)
+below-step ss b d ds on all = ap (nodes chosen_by ss) (followed-none ds ∙ all ∙ ap (λ x. entered x d) (sym on))
+
+pub below-none : (ss : List (Segment Choice)) (b : Bool) (d : Document) → b ≡ false → nodes chosen_by ss (entered b d) ≡ []
+below-none ss b d off = ap (λ x. nodes chosen_by ss (entered x d)) off ∙ nodes-none chosen_by ss
+
+-- ---- what they select of each of some nodes
+
+pub child-step : (ss : List (Segment Choice)) (steps : List Step) (now : List Document) (child : Document) (rest : List Document)
+    (reached : Document) → now ≡ child ∷ rest → Some reached ≡ at_steps steps child
+    → nodes chosen_by ss (followed steps now)
+    ≡ nodes chosen_by ss (reached ∷ []) ++ nodes chosen_by ss (followed steps rest)
+child-step ss steps now child rest reached is at =
+    ap (λ ds. nodes chosen_by ss (followed steps ds)) is
+    ∙ nodes-append chosen_by ss (option_to_list (at_steps steps child)) (followed steps rest)
+    ∙ ap (λ o. nodes chosen_by ss (option_to_list o) ++ nodes chosen_by ss (followed steps rest)) (sym at)
+
+pub children-end : (ss : List (Segment Choice)) (steps : List Step) (now : List Document) → now ≡ []
+    → nodes chosen_by ss (followed steps now) ≡ []
+children-end ss steps now none = ap (λ ds. nodes chosen_by ss (followed steps ds)) none ∙ nodes-none chosen_by ss
+
+-- ---- it is less deep
+
+pub chosen-low : (c : Choice) (d : Document) (ds : List Document) → ds ≡ chosen_by c d → height ds ≤ depth d
+chosen-low c d ds is = let same = ap height is in omega (arith, same, height-chosen_by c d)
+
+pub children-low : (d : Document) (ds : List Document) → ds ≡ children d → height ds ≤ depth d
+children-low d ds is = let same = ap height is in omega (arith, same, height-children d)
+
+pub reached-low : (steps : List Step) (now : List Document) (child : Document) (rest : List Document) (reached : Document) (n : ℕ)
+    → height now ≤ n → now ≡ child ∷ rest → Some reached ≡ at_steps steps child → depth reached < n
+reached-low steps now child rest reached n low is at =
+    let here = ap height is in
+    let there = ap (λ o. height (option_to_list o)) at in
+    omega (arith, here, there, height-at_steps steps child)
 
 -- ---- what an index says of the number
 
 pub sought-within : (ds : List Document) (n left : ℕ) → sought ds n ≡ Continue left → length ds + left ≡ n
-sought-within [] n left is = cc
+sought-within [] n left is = let same : left ≡ n = cc in omega (arith, same)
 sought-within (d ∷ ds) zero left is = cc
 sought-within (d ∷ ds) (suc n) left is = omega (arith, sought-within ds n left is)
 
@@ -78,7 +124,7 @@ sought-beyond (e ∷ ds) zero d is = omega arith
 sought-beyond (e ∷ ds) (suc n) d is = omega (arith, sought-beyond ds n d is)
 
 pub some-first : (r : ControlFlow Value ℕ) (ds : List Document) → document_of r ≡ sought ds 0
-    → is_some (break_value r) ≡ nat_lt 0 (length ds)
+    → is_some (break_value r) ≡ any ds
 some-first (Break v) [] is = cc
 some-first (Break v) (d ∷ ds) is = refl
 some-first (Continue left) [] is = refl

@@ -1,5 +1,5 @@
 -- When a node passes a test (RFC 9535, section 2.3.5), in a query that is applied to a root.
-use Rattle.std.specs.Prelude.{◌-◌, ◌^◌, List, [], ◌∷◌, length, min, Bool, false, not, ◌&&◌, ◌||◌, nat_lt}
+use Rattle.std.specs.Prelude.{◌-◌, ◌^◌, List, [], ◌∷◌, length, min, Bool, true, false, not, ◌&&◌, ◌||◌}
 use Rattle.std.specs.Prelude.{Option, Some, None, option_and_then}
 use Rattle.std.specs.Option.{option_to_list}
 use Rattle.std.specs.Str.{chars}
@@ -23,6 +23,11 @@ selected_node root (start.Absolute steps) d = at_steps steps.now root
 
 abbrev pub queried : Document → Query → Document → List Document
 queried root q d = nodes chosen_by q.segments.now (option_to_list (selected_node root q.start d))
+
+-- whether there is one
+abbrev pub any : List Document → Bool
+any [] = false
+any (d ∷ ds) = true
 
 -- ---- what is compared (section 2.3.5.1): a value or nothing
 
@@ -58,7 +63,7 @@ operand root (comparable.Value q) d = only (queried root q d)
 -- ---- tests (section 2.3.5.2)
 
 abbrev pub holds : Document → Test → Document → Bool
-holds root (Exists q) d = nat_lt 0 (length (queried root q d))
+holds root (Exists q) d = any (queried root q d)
 holds root (Compare a c b) d = compares c (operand root a d) (operand root b d)
 holds root (Not' p t) d = not (holds root t d)
 holds root (And' p t q u) d = holds root t d && holds root u d

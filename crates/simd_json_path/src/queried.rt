@@ -1,7 +1,7 @@
 //! The nodes that a filter's query selects (RFC 9535, section 2.3.5), without frames.
-ghost use Rattle.std.specs.Prelude.{◌≡◌, ◌-◌, ◌^◌, ◌∷◌, [], length, min, nat_lt, option_map};
+ghost use Rattle.std.specs.Prelude.{◌≡◌, ◌-◌, ◌^◌, ◌∷◌, [], length, min, option_map};
 ghost use Rattle.simd_json.specs.Viewed.{doc};
-ghost use Rattle.simd_json_path.specs.Filters.{only, queried};
+ghost use Rattle.simd_json_path.specs.Filters.{any, only, queried};
 ghost use Rattle.simd_json_path.specs.Nodes.{chosen_by, followed, nodes};
 ghost use Rattle.simd_json_path.specs.Sliced.{children_left};
 ghost use Rattle.simd_json_path.specs.Sought.{document_of, sought};
@@ -15,8 +15,7 @@ use std::ops::ControlFlow;
 
 // Whether a query selects a node.
 pub(crate) fn exists(query: &Query<'_>, root: Value<'_, '_>, node: Value<'_, '_>) -> bool
-    ensures { result
-        ≡ nat_lt 0 (length (queried (doc root.entry) query.now (doc node.entry))) }
+    ensures { result ≡ any (queried (doc root.entry) query.now (doc node.entry)) }
 {
     nth(query, root, node, 0).is_break()
 }
