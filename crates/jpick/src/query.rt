@@ -80,7 +80,7 @@ fn first_of<'q, 't, 'i>(
 }
 
 // Whether each has one name or one index, of the children.
-pub(crate) fn are_singular(segments: &[Segment<'_>]) -> bool
+pub(crate) fn are_singular(segments: &[Segment<'_, Selector<'_>>]) -> bool
     ensures { result ≡ list_all is_singular_segment segments.now }
 {
     for segment in segments {
@@ -97,7 +97,7 @@ fn is_single(selectors: &[Selector<'_>]) -> bool
 {
     matches!(
         selectors,
-        [Selector::Choice(Choice::Name(_) | Choice::Index(_))]
+        [Selector::Choice(Choice::Name(_))] | [Selector::Choice(Choice::Index(_))]
     )
 }
 

@@ -1,6 +1,6 @@
 use simd_json::to_tape;
 use simd_json_path::{
-    Choice, Frame, Path, Query, Segment, Selector, SingularQuery, Test, TooFewFrames,
+    Choice, Frame, Path, Query, Segment, Selector, SingularQuery, TooFewFrames,
 };
 use std::process::Abort;
 use std::test::Fail;
@@ -16,32 +16,26 @@ mod texts;
 
 type Tested = std::result::Result<(), Fail>;
 
-fn name(name: &str) -> Selector<'_> {
+const ALL: Selector<'static> = Selector::Choice(Choice::Wildcard);
+
+fn name<'path>(name: &'path str) -> Selector<'path> {
     Selector::Choice(Choice::Name(name))
 }
 
-fn index<'path>(index: i64) -> Selector<'path> {
+fn index(index: i64) -> Selector<'static> {
     Selector::Choice(Choice::Index(index))
 }
 
-fn wildcard<'path>() -> Selector<'path> {
-    Selector::Choice(Choice::Wildcard)
-}
-
-// A query that selects at most one node.
-fn singular(start: SingularQuery<'_>) -> Query<'_> {
+// A query of at most one node.
+fn singular<'path>(start: SingularQuery<'path>) -> Query<'path> {
     Query {
         start,
         segments: &[],
     }
 }
 
-fn exists(start: SingularQuery<'_>) -> Test<'_> {
-    Test::Exists(singular(start))
-}
-
 // A child segment without steps.
-fn child<'path>(selectors: &'path [Selector<'path>]) -> Segment<'path> {
+fn child<'path>(selectors: &'path [Selector<'path>]) -> Segment<'path, Selector<'path>> {
     Segment {
         selectors,
         is_descendant: false,
@@ -50,7 +44,7 @@ fn child<'path>(selectors: &'path [Selector<'path>]) -> Segment<'path> {
 }
 
 // A descendant segment without steps.
-fn descendant<'path>(selectors: &'path [Selector<'path>]) -> Segment<'path> {
+fn descendant<'path>(selectors: &'path [Selector<'path>]) -> Segment<'path, Selector<'path>> {
     Segment {
         selectors,
         is_descendant: true,
@@ -62,7 +56,7 @@ fn descendant<'path>(selectors: &'path [Selector<'path>]) -> Segment<'path> {
 fn assert_selects(
     rt: &(impl AllocGlobal + Abort),
     document: &str,
-    segments: &[Segment<'_>],
+    segments: &[Segment<'_, Selector<'_>>],
     wanted: &[&str],
 ) {
     let path = Path {
@@ -99,7 +93,7 @@ fn assert_path_selects(
 fn items(
     rt: &(impl AllocGlobal + Abort),
     document: &str,
-    segments: &[Segment<'_>],
+    segments: &[Segment<'_, Selector<'_>>],
     count: usize,
 ) -> String {
     let path = Path {

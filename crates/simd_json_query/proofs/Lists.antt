@@ -1,11 +1,10 @@
 -- Parts of a query that are read one after the other.
-use Rattle.std.proofs.Common.{◌≡◌, ◌∙◌, refl, List, [], ◌∷◌, ◌++◌, ℕ, false}
+use Rattle.std.proofs.Common.{◌≡◌, ◌∙◌, refl, List, [], ◌∷◌, ◌++◌, ℕ, Bool}
 use Rattle.simd_json_parts.specs.Bytes.{comma}
-use Rattle.simd_json_query.specs.Segments.{Segments, SegmentText, Selectors}
+use Rattle.simd_json_query.specs.Segments.{Segments, Selectors}
 use Rattle.simd_json_query.specs.Steps.{Blanks, StepText, Steps}
 use Rattle.simd_json_query.specs.Spans.{◌then◌, Many, Mark}
 use Rattle.simd_json_query.specs.declared.filter.Step.{Step}
-use Rattle.simd_json_query.specs.declared.query.Choice.{Choice}
 use Rattle.simd_json_query.specs.declared.query.Segment.{Segment}
 use Rattle.simd_json_query.proofs.Runs.{many-more}
 
@@ -14,13 +13,12 @@ pub steps-more : (steps : List Step) (s : Step) (text between begin rest : List 
 steps-more steps s text between begin rest read blanks step =
     many-more (λ s. Blanks then StepText s) steps s text between rest read (begin, blanks, step)
 
-pub segments-more : {S : Type 0} (Text : S → List ℕ → List ℕ → Type 0) (of : Choice → S) (segments : List (Segment S)) (s : Segment S)
-    (text between begin rest : List ℕ) → Segments Text of segments text between → Blanks between begin
-    → (SegmentText Text of s.is_descendant s.selectors.now then Steps s.steps.now) begin rest
-    → Segments Text of (segments ++ s ∷ []) text rest
-segments-more Text of segments s text between begin rest read blanks segment =
-    many-more (λ s. Blanks then SegmentText Text of s.is_descendant s.selectors.now then Steps s.steps.now) segments s text between rest
-    read (begin, blanks, segment)
+pub segments-more : {S : Type 0} (Text : Bool → List S → List ℕ → List ℕ → Type 0) (segments : List (Segment S)) (s : Segment S)
+    (text between begin end rest : List ℕ) → Segments Text segments text between → Blanks between begin
+    → Text s.is_descendant s.selectors.now begin end → Steps s.steps.now end rest → Segments Text (segments ++ s ∷ []) text rest
+segments-more Text segments s text between begin end rest read blanks segment steps =
+    many-more (λ s. Blanks then Text s.is_descendant s.selectors.now then Steps s.steps.now) segments s text between rest read
+    (begin, blanks, (end, segment, steps))
 
 pub selectors-more : {S : Type 0} (Text : S → List ℕ → List ℕ → Type 0) (selectors : List S) (s : S)
     (text between comma_at behind begin rest : List ℕ)

@@ -3,7 +3,7 @@ use Rattle.std.specs.Prelude.{ℕ, zero, suc, List, ◌++◌, ◌≡◌, ◌≤�
 use Rattle.simd_json_parts.specs.Numbers.{number_literal}
 use Rattle.simd_json_parts.specs.Patterns.{Matches}
 use Rattle.simd_json_query.specs.Choices.{ChoiceText}
-use Rattle.simd_json_query.specs.Segments.{Segments}
+use Rattle.simd_json_query.specs.Segments.{Segments, SegmentText}
 use Rattle.simd_json_query.specs.Steps.{Blanks, StringText, Steps, dollar}
 use Rattle.simd_json_query.specs.Spans.{◌then◌, ◌or◌, Many, Mark, Nothing}
 use Rattle.simd_json_query.specs.declared.filter.Comparable.{Comparable, Length'}
@@ -15,6 +15,8 @@ use Rattle.simd_json_query.specs.declared.filter.Literal.TheVariants as literal
 use Rattle.simd_json_query.specs.declared.filter.Query.{Query}
 use Rattle.simd_json_query.specs.declared.filter.SingularQuery.{SingularQuery}
 use Rattle.simd_json_query.specs.declared.filter.SingularQuery.TheVariants as query
+use Rattle.simd_json_query.specs.declared.query.Choice.{Choice}
+use Rattle.simd_json_query.specs.declared.query.Segment.{Segment}
 use Rattle.simd_json_query.specs.declared.filter.Test.{Test, Exists, Compare, Not', And', Or'}
 
 -- ---- characters
@@ -61,10 +63,15 @@ SingularText (query.Absolute steps) = Mark dollar then Steps steps.now
 abbrev pub max_segments : ℕ
 max_segments = 100
 
+abbrev pub PlainSegment : Bool → List Choice → List ℕ → List ℕ → Type 0
+PlainSegment = SegmentText ChoiceText (λ c. c)
+
+abbrev pub PlainSegments : List (Segment Choice) → List ℕ → List ℕ → Type 0
+PlainSegments = Segments PlainSegment
+
 abbrev pub QueryText : Query → List ℕ → List ℕ → Type 0
 QueryText q text rest =
-    (length q.segments.now ≤ max_segments)
-    × (SingularText q.start then Segments ChoiceText (λ c. c) q.segments.now) text rest
+    (length q.segments.now ≤ max_segments) × (SingularText q.start then PlainSegments q.segments.now) text rest
 
 -- ---- functions (section 2.4) of one argument
 

@@ -16,11 +16,11 @@ mod filters;
 mod integers;
 mod literals;
 mod names;
+mod openings;
+mod plain;
 mod queries;
 mod segments;
-mod selections;
 mod selectors;
-mod spelled;
 mod steps;
 mod strings;
 mod whole;
@@ -148,8 +148,8 @@ const MAX_SEGMENTS: usize = 100;
 /// The query of a text, in an arena.
 ///
 /// Returns where the text is no query, and what it lacks there, or `Memory` where an allocation
-/// fails. In filters only queries of at most one node are read, and no `match` and `search`; blanks
-/// may stand inside brackets in a compared query too.
+/// fails. The queries of filters hold no filter, and have at most 100 segments beside steps; `match`
+/// and `search` are not read. In a compared query there may be blanks inside brackets too.
 pub fn read<'path, A: Allocator>(
     arena: &'path Bump<A>,
     text: &str,

@@ -1,10 +1,8 @@
 // Comparisons: RFC 9535, sections 2.3.5.2.2, 2.3.5.3 and 2.4, and values worked by hand.
-use crate::tests::{Tested, assert_selects, child, exists, name, singular};
+use crate::tests::{Tested, assert_selects, child, name, singular};
 use bumpalo::Bump;
 use simd_json::to_tape;
-use simd_json_path::{
-    Comparable, Comparison, Filter, Literal, Selector, SingularQuery, Step, Test,
-};
+use simd_json_path::{Comparable, Comparison, Filter, Literal, Selector, SingularQuery, Step, Test};
 use std::process::Abort;
 
 const FILTERED: &str =
@@ -353,7 +351,7 @@ fn functions(rt: HostRuntime) -> Tested {
 #[test]
 fn many_operands_take_no_stack(rt: HostRuntime) -> Tested {
     let arena = Bump::new(rt.alloc());
-    let itself = exists(SingularQuery::Relative(&[]));
+    let itself = Test::Exists(singular(SingularQuery::Relative(&[])));
     let nothing = Test::Not(&itself);
     let mut all = &itself;
     let mut one = &itself;

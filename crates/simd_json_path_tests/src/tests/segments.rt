@@ -1,5 +1,5 @@
 // The examples of RFC 9535, sections 1.5, 2.5.1, 2.5.2 and 2.6.
-use crate::tests::{Tested, assert_selects, child, descendant, index, name, wildcard};
+use crate::tests::{ALL, Tested, assert_selects, child, descendant, index, name};
 use simd_json_path::{Choice, Selector, Slice};
 
 const DEEP: &str = "{\"o\":{\"j\":1,\"k\":2},\"a\":[5,3,[{\"j\":4},{\"k\":6}]]}";
@@ -36,8 +36,8 @@ fn descendants(rt: HostRuntime) -> Tested {
     let j = [name("j")];
     let o = [name("o")];
     let a = [name("a")];
-    let all = [wildcard()];
-    let twice = [wildcard(), wildcard()];
+    let all = [ALL];
+    let twice = [ALL, ALL];
     let first = [index(0)];
     let two = [index(0), index(1)];
     assert_selects(&rt, DEEP, &[descendant(&j)], &["1", "4"]);
@@ -78,7 +78,7 @@ fn descendants(rt: HostRuntime) -> Tested {
 
 #[test]
 fn descendants_of_descendants_come_more_than_once(rt: HostRuntime) -> Tested {
-    let all = [wildcard()];
+    let all = [ALL];
     let segments = [descendant(&all), descendant(&all)];
     assert_selects(&rt, "[[[1]]]", &segments, &["[1]", "1", "1"]);
     Ok(())
@@ -90,7 +90,7 @@ fn null_is_a_value(rt: HostRuntime) -> Tested {
     let b = [name("b")];
     let null = [name("null")];
     let first = [index(0)];
-    let all = [wildcard()];
+    let all = [ALL];
     assert_selects(&rt, NULLS, &[child(&a)], &["null"]);
     assert_selects(&rt, NULLS, &[child(&a), child(&first)], &[]);
     assert_selects(&rt, NULLS, &[child(&a), child(&b)], &[]);
@@ -107,7 +107,7 @@ fn the_store(rt: HostRuntime) -> Tested {
     let author = [name("author")];
     let price = [name("price")];
     let publisher = [name("publisher")];
-    let all = [wildcard()];
+    let all = [ALL];
     let third = [index(2)];
     let last = [index(-1)];
     let authors = [
@@ -137,7 +137,7 @@ fn of_equal_names_a_name_selects_the_first_and_a_wildcard_all(rt: HostRuntime) -
     assert_selects(
         &rt,
         document,
-        &[child(&[wildcard()])],
+        &[child(&[ALL])],
         &["1", "2", "3"],
     );
     Ok(())

@@ -1,5 +1,5 @@
 // The examples of RFC 9535, sections 2.3.1 to 2.3.4.
-use crate::tests::{Tested, assert_path_selects, assert_selects, child, index, name, wildcard};
+use crate::tests::{ALL, Tested, assert_path_selects, assert_selects, child, index, name};
 use simd_json_path::{Choice, Path, Selector, Slice, Step};
 
 const NAMES: &str = "{\"o\":{\"j j\":{\"k.k\":3}},\"'\":{\"@\":2}}";
@@ -30,8 +30,8 @@ fn names(rt: HostRuntime) -> Tested {
 fn wildcards(rt: HostRuntime) -> Tested {
     let o = [name("o")];
     let a = [name("a")];
-    let all = [wildcard()];
-    let twice = [wildcard(), wildcard()];
+    let all = [ALL];
+    let twice = [ALL, ALL];
     assert_selects(&rt, WILD, &[child(&all)], &["{\"j\":1,\"k\":2}", "[5,3]"]);
     assert_selects(&rt, WILD, &[child(&o), child(&all)], &["1", "2"]);
     assert_selects(
@@ -105,8 +105,7 @@ fn slices(rt: HostRuntime) -> Tested {
 
 #[test]
 fn steps_are_segments_of_one_name_or_index(rt: HostRuntime) -> Tested {
-    let all = [wildcard()];
-    let mut each = child(&all);
+    let mut each = child(&[ALL]);
     each.steps = &[Step::Name("a"), Step::Index(-1)];
     let path = Path {
         steps: &[Step::Index(1), Step::Name("x")],

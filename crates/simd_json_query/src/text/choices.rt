@@ -8,40 +8,9 @@ use crate::query::{Choice, Slice};
 use crate::text::PathExpected;
 use crate::text::cursor::{Stop, after, skip_blanks};
 use crate::text::integers::{begins_integer, optional};
-use crate::text::spelled::Spelled;
 use crate::text::strings::quoted;
 use bumpalo::Bump;
 use std::alloc::Allocator;
-
-impl<'path> Spelled<'path> for Choice<'path> {
-    ghost use Rattle.simd_json_query.specs.Choices.{ChoiceText};
-
-    ghost spelled = { ChoiceText };
-
-    ghost choice = { λ c. c };
-
-    fn read<'t, A: Allocator>(
-        arena: &'path Bump<A>,
-        rest: &'t str,
-    ) -> Result<(Choice<'path>, &'t str), Stop> {
-        match choice(arena, rest)? {
-            Some(found) => Ok(found),
-            None => Err(Stop::at(rest, without_filter(rest))),
-        }
-    }
-
-    fn of(choice: Choice<'path>) -> Choice<'path> {
-        choice
-    }
-}
-
-// What the text lacks where no choice is there.
-fn without_filter(rest: &str) -> PathExpected {
-    match after(rest, '?') {
-        Some(_) => PathExpected::WithoutFilter,
-        None => PathExpected::Selector,
-    }
-}
 
 // A choice, if one is there, and what is after it.
 pub(super) fn choice<'path, 't, A: Allocator>(

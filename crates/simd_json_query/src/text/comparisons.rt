@@ -40,7 +40,7 @@ fn queried<'path, 't, A: Allocator>(
     rest: &'t str,
     nesting: usize,
 ) -> Result<(Test<'path>, &'t str), Stop>
-    ensures test { IfOk result (λ r. (text : List ℕ) → SingularText start text rest.now
+    ensures test { IfOk result (λ r. (text : List ℕ) → SingularText start.entry text rest.now
         → Basic (Nested nesting) r.0 text r.1.now) }
     ensures shorter { IfOk result (λ r. length r.1.now ≤ length rest.now) }
 {
@@ -63,7 +63,7 @@ fn compared_to<'path, 't, A: Allocator>(
     nesting: usize,
 ) -> Result<(Test<'path>, &'t str), Stop>
     ensures test { IfOk result (λ r. (text : List ℕ)
-        → (ComparableText left then Blanks then OperatorText comparison) text rest.now
+        → (ComparableText left.entry then Blanks then OperatorText comparison) text rest.now
         → Basic (Nested nesting) r.0 text r.1.now) }
     ensures shorter { IfOk result (λ r. length r.1.now ≤ length rest.now) }
 {

@@ -4,7 +4,7 @@ ghost use Rattle.simd_json_query.specs.Filters.{QueryText, SingularText};
 
 use crate::filter::{Query, SingularQuery};
 use crate::text::cursor::{Stop, after, next, skip_blanks};
-use crate::text::segments::segments;
+use crate::text::plain::segments;
 use crate::text::steps::steps;
 use crate::text::{MAX_SEGMENTS, PathExpected};
 use bumpalo::Bump;
@@ -30,7 +30,7 @@ pub(super) fn from<'path, 't, A: Allocator>(
     start: SingularQuery<'path>,
     rest: &'t str,
 ) -> Result<(Query<'path>, &'t str), Stop>
-    ensures query { IfOk result (λ r. (text : List ℕ) → SingularText start text rest.now
+    ensures query { IfOk result (λ r. (text : List ℕ) → SingularText start.entry text rest.now
         → QueryText r.0 text r.1.now) }
     ensures shorter { IfOk result (λ r. length r.1.now ≤ length rest.now) }
 {

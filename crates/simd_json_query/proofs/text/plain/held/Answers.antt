@@ -1,0 +1,11 @@
+use Rattle.simd_json_query.specs.Choices.{ChoiceText}
+use Rattle.simd_json_query.proofs.Openings.{opened-brackets, opened-member}
+use Rattle.simd_json_query.proofs.text.plain.held.Goals as goal
+
+pub returns-in-Some-clause-held : goal.returns-in-Some-clause-held
+returns-in-Some-clause-held g c is_descendant text opening =
+    opened-member ChoiceText (λ c. c) is_descendant c.in-Some.choice text _ _ c.in_ok-try_alloc_slice_copy.ensures opening
+
+pub returns-in-None-clause-held : goal.returns-in-None-clause-held
+returns-in-None-clause-held g c is_descendant text opening =
+    opened-brackets ChoiceText (λ c. c) is_descendant text _ _ _ opening c.in_ok-selection.ensures.selection
