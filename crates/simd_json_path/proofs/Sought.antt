@@ -2,7 +2,6 @@
 use Rattle.std.proofs.Common.{◌≡◌, ◌∙◌, ap, sym, refl, ◌<◌, ◌≤◌, ◌+◌, ◌-◌, ◌^◌, ℕ, zero, suc, min, List, [], ◌∷◌, ◌++◌, length, drop, get_or, arith}
 use Rattle.std.proofs.Common.{Bool, true, false, Option, Some, None, is_some}
 use Rattle.std.specs.Prelude.{flat_map}
-use Rattle.std.specs.ControlFlow.{break_value}
 use Rattle.std.specs.Option.{option_to_list}
 use Rattle.std.specs.declared.ops.ControlFlow.{ControlFlow}
 use Rattle.std.specs.declared.ops.ControlFlow.TheVariants.{Break, Continue}
@@ -11,12 +10,9 @@ use Rattle.std.proofs.lemmas.List.{append_assoc, drop_all, drop_more}
 use Rattle.simd_json_parts.specs.Document.{Document}
 use Rattle.simd_json_parts.specs.Limits.{depth}
 use Rattle.simd_json.specs.Beneath.{children}
-use Rattle.simd_json.specs.Viewed.{doc}
-use Rattle.simd_json.specs.declared.value.tape.value.Value.{Value}
-use Rattle.simd_json_path.specs.Filters.{any, only}
 use Rattle.simd_json_path.specs.Nodes.{at_steps, by_all, chosen_by, followed, nodes}
 use Rattle.simd_json_path.specs.Room.{entered}
-use Rattle.simd_json_path.specs.Sought.{document_of, sought}
+use Rattle.simd_json_path.specs.Sought.{sought}
 use Rattle.simd_json_query.specs.declared.filter.Step.{Step}
 use Rattle.simd_json_query.specs.declared.query.Choice.{Choice}
 use Rattle.simd_json_query.specs.declared.query.Segment.{Segment}
@@ -122,24 +118,3 @@ pub sought-beyond : (ds : List Document) (n : ℕ) (d : Document) → sought ds 
 sought-beyond [] n d is = cc
 sought-beyond (e ∷ ds) zero d is = omega arith
 sought-beyond (e ∷ ds) (suc n) d is = omega (arith, sought-beyond ds n d is)
-
-pub some-first : (r : ControlFlow Value ℕ) (ds : List Document) → document_of r ≡ sought ds 0
-    → is_some (break_value r) ≡ any ds
-some-first (Break v) [] is = cc
-some-first (Break v) (d ∷ ds) is = refl
-some-first (Continue left) [] is = refl
-some-first (Continue left) (d ∷ ds) is = cc
-
-pub none-only : (ds : List Document) (left : ℕ) → sought ds 0 ≡ Continue left → only ds ≡ None
-none-only [] left is = refl
-none-only (d ∷ ds) left is = cc
-
-pub one-only : (ds : List Document) (d : Document) (left : ℕ) → sought ds 0 ≡ Break d → sought ds 1 ≡ Continue left → only ds ≡ Some d
-one-only [] d left is more = cc
-one-only (e ∷ []) d left is more = cc
-one-only (e ∷ f ∷ ds) d left is more = cc
-
-pub more-only : (ds : List Document) (e : Document) → sought ds 1 ≡ Break e → only ds ≡ None
-more-only [] e more = refl
-more-only (d ∷ []) e more = cc
-more-only (d ∷ f ∷ ds) e more = refl

@@ -66,5 +66,5 @@ impl<'path, 'tape, 'input> Leaf<'path, 'tape, 'input> {
 fn is_wildcard(selectors: &[Selector<'_>]) -> bool
     ensures { result ≡ is_wildcard selectors.now }
 {
-    selectors.len() == 1 && matches!(selectors[0], Selector::Choice(Choice::Wildcard))
+    matches!(selectors, [Selector::Choice(Choice::Wildcard)])
 }

@@ -17,7 +17,13 @@ use std::ops::ControlFlow;
 pub(crate) fn exists(query: &Query<'_>, root: Value<'_, '_>, node: Value<'_, '_>) -> bool
     ensures { result ≡ any (queried (doc root.entry) query.now (doc node.entry)) }
 {
-    nth(query, root, node, 0).is_break()
+    let Some(start) = selected_node(&query.start, root, node) else {
+        return false;
+    };
+    if query.segments.is_empty() {
+        return true;
+    }
+    nth_from(query.segments, start, 0).is_break()
 }
 
 // How many nodes a query selects, or `usize::MAX` where there are more.
