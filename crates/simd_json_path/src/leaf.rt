@@ -66,5 +66,11 @@ impl<'path, 'tape, 'input> Leaf<'path, 'tape, 'input> {
 fn is_wildcard(selectors: &[Selector<'_>]) -> bool
     ensures { result ≡ is_wildcard selectors.now }
 {
-    matches!(selectors, [Selector::Choice(Choice::Wildcard)])
+    let Some((first, others)) = selectors.split_first() else {
+        return false;
+    };
+    match first {
+        Selector::Choice(choice) => others.is_empty() && matches!(choice, Choice::Wildcard),
+        Selector::Filter(_) => false,
+    }
 }

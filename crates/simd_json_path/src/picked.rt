@@ -19,11 +19,9 @@ pub(crate) struct Picked<'path, 'tape, 'input> {
 impl<'path, 'tape, 'input> Picked<'path, 'tape, 'input> {
     ghost use Rattle.std.specs.Prelude.{◌≡◌, [], true};
     ghost use Rattle.std.specs.Iterator.{YieldsFirstBy};
-    ghost use Rattle.simd_json.specs.Beneath.{children};
     ghost use Rattle.simd_json.specs.Viewed.{doc};
     ghost use Rattle.simd_json_parts.specs.Document.{Document};
     ghost use Rattle.simd_json_path.specs.Frames.{picked_left};
-    ghost use Rattle.simd_json_path.specs.Sliced.{children_left};
     ghost use Rattle.simd_json_path.specs.Paths.{selected_by};
 
     #[inline(always)]
@@ -40,17 +38,6 @@ impl<'path, 'tape, 'input> Picked<'path, 'tape, 'input> {
                 children: Children::of(value),
                 test: Some(test),
             },
-        }
-    }
-
-    // All children.
-    #[inline(always)]
-    pub(crate) fn all(value: Value<'tape, 'input>) -> Self
-        ensures children { children_left result.children ≡ children (doc value.entry) }
-    {
-        Picked {
-            children: Children::of(value),
-            test: None,
         }
     }
 
