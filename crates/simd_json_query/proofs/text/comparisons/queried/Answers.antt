@@ -15,10 +15,10 @@ returns-clause-test g c =
     let op = c.in-Some.comparison in
     let none = nil_from_length query.segments.now (eqb-true (length query.segments.now) 0 (sym c.is_empty.ensures ∙ c.if-not-is_empty.false)) in
     ok-is (λ r. (text : List ℕ) → (ComparableText (comparable.Query query.start) then Blanks then OperatorText op) text c.in-Some.behind.now
-        → Basic (Nested c.args.nesting) r.0 text r.1.now)
+    → Basic (Nested c.args.nesting) r.0 text r.1.now)
     (λ r. (text : List ℕ) → SingularText c.args.start text c.args.rest.now → Basic (Nested c.args.nesting) r.0 text r.1.now)
     c.compared_to.result
     (λ r said text start. said text
-        (query-left query op text c.in_ok-query.others.now c.skip_blanks.result.now c.in-Some.behind.now
-        (c.in_ok-query.ensures.query text start) none c.skip_blanks.ensures.blanks c.in-Some.ensures.operator))
+    (query-left query op text c.in_ok-query.others.now c.skip_blanks.result.now c.in-Some.behind.now
+    (c.in_ok-query.ensures.query text start) none c.skip_blanks.ensures.blanks c.in-Some.ensures.operator))
     c.compared_to.ensures.test

@@ -10,7 +10,7 @@ use Rattle.simd_json_query.proofs.text.segments.held.Goals as goal
 
 pub returns-in_ok-try_alloc_slice_copy-in-Some-clause-held : goal.returns-in_ok-try_alloc_slice_copy-in-Some-clause-held
 returns-in_ok-try_alloc_slice_copy-in-Some-clause-held g c is_descendant text opening =
-    opened-member SelectorText selector.Choice is_descendant c.args.member c.in-Some.choice text _ _ c.in-Some.is c.in_ok-try_alloc_slice_copy.ensures opening
+    opened-member SelectorText selector.Choice is_descendant c.args.member c.in-Some.choice text _ _ c.in-Some.is c.in_ok-try_alloc_slice_copy-in-Some.ensures opening
 
 pub returns-in-None-clause-held : goal.returns-in-None-clause-held
 returns-in-None-clause-held g c =
