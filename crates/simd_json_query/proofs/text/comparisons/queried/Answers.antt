@@ -13,7 +13,8 @@ pub returns-clause-test : goal.returns-clause-test
 returns-clause-test g c =
     let query = c.in_ok-query.query in
     let op = c.in-Some.comparison in
-    let none = nil_from_length query.segments.now (eqb-true (length query.segments.now) 0 (sym c.is_empty.ensures ∙ c.if-not-is_empty.false)) in
+    let none =
+    nil_from_length query.segments.now (eqb-true (length query.segments.now) 0 (sym c.is_empty.ensures ∙ c.if-not-is_empty.false)) in
     ok-is (λ r. (text : List ℕ) → (ComparableText (comparable.Query query.start) then Blanks then OperatorText op) text c.in-Some.behind.now
     → Basic (Nested c.args.nesting) r.0 text r.1.now)
     (λ r. (text : List ℕ) → SingularText c.args.start text c.args.rest.now → Basic (Nested c.args.nesting) r.0 text r.1.now)
