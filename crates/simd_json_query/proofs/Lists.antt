@@ -1,9 +1,9 @@
 -- Parts of a query that are read one after the other.
-use Rattle.std.proofs.Common.{◌≡◌, ◌∙◌, refl, List, [], ◌∷◌, ◌++◌, ℕ, Bool}
+use Rattle.std.proofs.Common.{List, [], ◌∷◌, ◌++◌, ℕ, Bool}
 use Rattle.simd_json_parts.specs.Bytes.{comma}
 use Rattle.simd_json_query.specs.Segments.{Segments, Selectors}
 use Rattle.simd_json_query.specs.Steps.{Blanks, StepText, Steps}
-use Rattle.simd_json_query.specs.Spans.{◌then◌, Many, Mark}
+use Rattle.simd_json_query.specs.Spans.{◌then◌, Mark}
 use Rattle.simd_json_query.specs.declared.filter.Step.{Step}
 use Rattle.simd_json_query.specs.declared.query.Segment.{Segment}
 use Rattle.simd_json_query.proofs.Runs.{many-more}

@@ -65,7 +65,7 @@ pub enum PathExpected {
     SingularQuery,
     /// A selector that is no filter: the queries of a filter hold none here.
     WithoutFilter,
-    /// Fewer segments in a filter's query: at most 100.
+    /// Fewer segments in a filter's query: at most 100 of more than a name or an index.
     FewerSegments,
     /// A test without `match` or `search`: regular expressions are not supported.
     WithoutPattern,
@@ -148,8 +148,8 @@ const MAX_SEGMENTS: usize = 100;
 /// The query of a text, in an arena.
 ///
 /// Returns where the text is no query, and what it lacks there, or `Memory` where an allocation
-/// fails. The queries of filters hold no filter, and have at most 100 segments beside steps; `match`
-/// and `search` are not read. In a compared query there may be blanks inside brackets too.
+/// fails. Queries in filters hold no filter and at most 100 segments of more than a name or an
+/// index; `match` and `search` are not read. A compared query may have blanks in brackets too.
 pub fn read<'path, A: Allocator>(
     arena: &'path Bump<A>,
     text: &str,

@@ -51,7 +51,13 @@ fn queried<'path, 't, A: Allocator>(
     if !query.segments.is_empty() {
         return Err(Stop::at(skip_blanks(rest), PathExpected::SingularQuery));
     }
-    compared_to(arena, Comparable::Query(start), comparison, behind, nesting)
+    compared_to(
+        arena,
+        Comparable::Query(query.start),
+        comparison,
+        behind,
+        nesting,
+    )
 }
 
 // The comparison with what is at the right of an operator, and what is after it.
