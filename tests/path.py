@@ -160,19 +160,25 @@ def singular():
     return (random.choice("@@@$"), [step() for _ in range(random.choice([0, 1, 1, 1, 2]))])
 
 
+def query():
+    """A query without filters: each selector is one of `choice`."""
+    segments = [step() if random.random() < 0.4 else segment(choice) for _ in range(random.choice([1, 1, 1, 2, 3]))]
+    return singular() if random.random() < 0.4 else (random.choice("@@@$"), segments)
+
+
 def comparable(depth):
     kind = random.choice(["literal", "literal", "query", "query", "query", "length", "count", "value"])
     if kind == "literal":
         return (kind, random.choice([Number(random.choice(NUMBERS)), random.choice(STRINGS), None, True, False]))
     if kind == "length":
         return (kind, comparable(depth - 1)) if depth else ("query", singular())
-    return (kind, singular())
+    return (kind, singular() if kind == "query" else query())
 
 
 def test(depth):
     kind = random.choice(["exists", "compare", "compare", "or", "and", "not"]) if depth else random.choice(["exists", "compare"])
     if kind == "exists":
-        return (kind, singular())
+        return (kind, query())
     if kind == "compare":
         return (kind, comparable(2), random.choice(OPERATORS), comparable(2))
     if kind == "not":
@@ -180,19 +186,24 @@ def test(depth):
     return (kind, [test(depth - 1) for _ in range(random.choice([2, 2, 3]))])
 
 
-def selector():
-    kind = random.choice(["name", "name", "wildcard", "index", "slice", "filter", "filter"])
+def choice():
+    kind = random.choice(["name", "name", "wildcard", "index", "slice"])
     if kind == "name":
         return (kind, random.choice(NAMES[:4] + NAMES))
     if kind == "index":
         return (kind, index())
     if kind == "slice":
         return (kind, *(random.choice([None, index()]) for _ in range(2)), random.choice([None, 1, 2, 0, -1, -2, 3]))
-    return (kind, test(2)) if kind == "filter" else (kind,)
+    return (kind,)
 
 
-def segment():
-    return (random.random() < 0.35, [selector() for _ in range(random.choice([1, 1, 1, 2, 3]))])
+def selector():
+    return ("filter", test(2)) if random.random() < 0.3 else choice()
+
+
+def segment(held):
+    """A segment of selectors that `held` makes."""
+    return (random.random() < 0.35, [held() for _ in range(random.choice([1, 1, 1, 2, 3]))])
 
 
 # ---- their text
@@ -285,7 +296,7 @@ def main():
         if turn % 10 == 0:
             root = document(4, 5)
             print("document", row(printed(root)))
-        segments = [segment() for _ in range(random.choice([1, 1, 1, 2, 2, 3]))]
+        segments = [segment(selector) for _ in range(random.choice([1, 1, 1, 2, 2, 3]))]
         found = nodes(segments, root, root)
         if len(found) <= 200:
             print("path", row("$" + shown_segments(segments)), "=>", row(printed(found, "0")))

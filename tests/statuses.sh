@@ -284,6 +284,8 @@ given "$filtered" --where '@.k != 1' /k
 wanted 'lines where a value is not 1, or there is none' 0 '0\n0\n[1]\n\n' ''
 given "$filtered" --where '@.k[0] == 1' ''
 wanted 'lines where an element is 1' 0 '{"k":[1]}\n' ''
+given "$filtered" --where '@.*[*]' ''
+wanted 'lines where there are elements in a member' 0 '{"k":[1]}\n' ''
 given "$filtered" --where '!@.k' ''
 wanted 'lines without a value' 0 '{}\n' ''
 given '{"s":500,"l":"error"}\n{"s":499,"l":"error"}\n{"s":503,"l":"info"}\n{"s":"600","l":"error"}\n' --where '@.s >= 500 && @.l == "error"' ''

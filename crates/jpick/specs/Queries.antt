@@ -8,6 +8,7 @@ use Rattle.simd_json_parts.specs.Limits.{depth}
 use Rattle.simd_json_parts.specs.Pointed.{pointed}
 use Rattle.simd_json_path.specs.Paths.{selected}
 use Rattle.simd_json_path.specs.Room.{frames_for}
+use Rattle.simd_json_query.specs.declared.query.Choice.TheVariants as choice
 use Rattle.simd_json_query.specs.declared.query.Segment.{Segment}
 use Rattle.simd_json_query.specs.declared.query.Selector.{Selector}
 use Rattle.simd_json_query.specs.declared.query.Selector.TheVariants as selector
@@ -33,14 +34,14 @@ first (d ∷ ds) = Some d
 -- one name or one index
 abbrev pub is_single : List Selector → Bool
 is_single [] = false
-is_single (selector.Name name ∷ []) = true
-is_single (selector.Index i ∷ []) = true
-is_single (selector.Wildcard ∷ []) = false
-is_single (selector.Slice s ∷ []) = false
+is_single (selector.Choice (choice.Name name) ∷ []) = true
+is_single (selector.Choice (choice.Index i) ∷ []) = true
+is_single (selector.Choice choice.Wildcard ∷ []) = false
+is_single (selector.Choice (choice.Slice s) ∷ []) = false
 is_single (selector.Filter test ∷ []) = false
 is_single (s ∷ t ∷ others) = false
 
-abbrev pub is_singular_segment : Segment → Bool
+abbrev pub is_singular_segment : Segment Selector → Bool
 is_singular_segment s = not s.is_descendant && is_single s.selectors.now
 
 abbrev pub is_singular : Query → Bool

@@ -9,7 +9,7 @@ ghost use Rattle.jpick.specs.Queries.{first, frames_of, has_frames, is_single, i
 ghost use Rattle.jpick.specs.Queries.{is_singular_segment, selected_by, text_of};
 
 use simd_json::tape::Value;
-use simd_json_path::{Frame, Path, Segment, Selector};
+use simd_json_path::{Choice, Frame, Path, Segment, Selector};
 
 /// What selects values of a document.
 #[derive(Clone, Copy)]
@@ -80,7 +80,7 @@ fn first_of<'q, 't, 'i>(
 }
 
 // Whether each has one name or one index, of the children.
-pub(crate) fn are_singular(segments: &[Segment<'_>]) -> bool
+pub(crate) fn are_singular(segments: &[Segment<'_, Selector<'_>>]) -> bool
     ensures { result ≡ list_all is_singular_segment segments.now }
 {
     for segment in segments {
@@ -95,7 +95,10 @@ pub(crate) fn are_singular(segments: &[Segment<'_>]) -> bool
 fn is_single(selectors: &[Selector<'_>]) -> bool
     ensures { result ≡ is_single selectors.now }
 {
-    matches!(selectors, [Selector::Name(_)] | [Selector::Index(_)])
+    matches!(
+        selectors,
+        [Selector::Choice(Choice::Name(_))] | [Selector::Choice(Choice::Index(_))]
+    )
 }
 
 /// How many frames suffice for each query, in a document in which so many arrays and objects are

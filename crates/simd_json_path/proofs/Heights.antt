@@ -8,13 +8,16 @@ use Rattle.simd_json_parts.specs.Document.{Document, array, object, Elements, no
 use Rattle.simd_json_parts.specs.Limits.{depth, elements_depth, members_depth}
 use Rattle.simd_json_parts.specs.Views.{first_with, get, values}
 use Rattle.simd_json.specs.Beneath.{children}
-use Rattle.simd_json_path.specs.Filters.{at_step, at_steps, holds}
-use Rattle.simd_json_path.specs.Paths.{followed, selected_by, selected_by_all}
+use Rattle.simd_json_path.specs.Filters.{holds}
+use Rattle.simd_json_path.specs.Nodes.{at_step, at_steps, chosen_by, followed}
+use Rattle.simd_json_path.specs.Paths.{selected_by, selected_by_all}
 use Rattle.simd_json_path.specs.Places.{at_index, place}
 use Rattle.simd_json_path.specs.Room.{entered}
 use Rattle.simd_json_path.specs.Slices.{every, by_step, bound_or, bound_after_or, forward, backward, sliced}
 use Rattle.simd_json_query.specs.declared.filter.Step.{Step}
 use Rattle.simd_json_query.specs.declared.filter.Step.TheVariants as step
+use Rattle.simd_json_query.specs.declared.query.Choice.{Choice}
+use Rattle.simd_json_query.specs.declared.query.Choice.TheVariants as choice
 use Rattle.simd_json_query.specs.declared.query.Slice.{Slice}
 use Rattle.simd_json_query.specs.declared.query.Selector.{Selector}
 use Rattle.simd_json_query.specs.declared.query.Selector.TheVariants as selector
@@ -36,7 +39,7 @@ height-values : (ms : Members) → height (values ms) ≤ suc (members_depth ms)
 height-values no_members = omega arith
 height-values (member k d ms) = omega (arith, height-values ms)
 
-height-children : (d : Document) → height (children d) ≤ depth d
+pub height-children : (d : Document) → height (children d) ≤ depth d
 height-children (array ds) = height-elements ds
 height-children (object ms) = height-values ms
 height-children _ = omega arith
@@ -119,11 +122,14 @@ height-sliced : (s : Slice) (d : Document) → height (sliced s d) ≤ depth d
 height-sliced s (array ds) = omega (arith, height-step s s.step (elements ds), height-elements ds)
 height-sliced s _ = omega arith
 
+pub height-chosen_by : (c : Choice) (d : Document) → height (chosen_by c d) ≤ depth d
+height-chosen_by (choice.Name name) d = height-name name.now d
+height-chosen_by choice.Wildcard d = height-children d
+height-chosen_by (choice.Index i) d = height-index i d
+height-chosen_by (choice.Slice s) d = height-sliced s d
+
 height-selected_by : (root : Document) (s : Selector) (d : Document) → height (selected_by root s d) ≤ depth d
-height-selected_by root (selector.Name name) d = height-name name.now d
-height-selected_by root selector.Wildcard d = height-children d
-height-selected_by root (selector.Index i) d = height-index i d
-height-selected_by root (selector.Slice s) d = height-sliced s d
+height-selected_by root (selector.Choice c) d = height-chosen_by c d
 height-selected_by root (selector.Filter test) d = omega (arith, height-filter (holds root test.now) (children d), height-children d)
 
 height-step-at : (s : Step) (d : Document) → height (option_to_list (at_step s d)) ≤ depth d
@@ -135,7 +141,7 @@ height-then : (f : Document → Option Document) → ((d : Document) → height 
 height-then f bounded None n few = omega arith
 height-then f bounded (Some d) n few = omega (arith, bounded d)
 
-height-at_steps : (ss : List Step) (d : Document) → height (option_to_list (at_steps ss d)) ≤ suc (depth d)
+pub height-at_steps : (ss : List Step) (d : Document) → height (option_to_list (at_steps ss d)) ≤ suc (depth d)
 height-at_steps [] d = omega arith
 height-at_steps (s ∷ ss) d = height-then (at_steps ss) (height-at_steps ss) (at_step s d) (depth d) (height-step-at s d)
 

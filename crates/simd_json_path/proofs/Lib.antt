@@ -8,4 +8,5 @@ pub mod Slices
 pub mod Backs
 pub mod Equals
 pub mod Levels
+pub mod Sought
 pub mod Tests

@@ -7,33 +7,32 @@ use Rattle.std.proofs.lemmas.List.{append-nil}
 use Rattle.simd_json_parts.specs.Document.{Document, array, object, Elements, no_elements, element, elements, Members, no_members, member}
 use Rattle.simd_json_parts.specs.Views.{values}
 use Rattle.simd_json.specs.Beneath.{children, descendants, among_elements, among_members}
-use Rattle.simd_json_path.specs.Filters.{at_steps}
-use Rattle.simd_json_path.specs.Paths.{followed, nodes, visited, selected_by_all, selected_of}
+use Rattle.simd_json_path.specs.Nodes.{at_steps, by_all, followed, nodes, selected_of, visited}
 use Rattle.simd_json_path.specs.Room.{entered}
 use Rattle.simd_json_query.specs.declared.query.Segment.{Segment}
 
--- what segments select of a node
-abbrev pub from_node : Document → List Segment → Document → List Document
-from_node root ss d = nodes root ss (d ∷ [])
+-- what segments select of a node, where this is what one selector selects
+module _ {S : Type 0} (by : S → Document → List Document) where
+  abbrev pub from_node : List (Segment S) → Document → List Document
+  from_node ss d = nodes by ss (d ∷ [])
 
--- ---- of nodes: of each
+  -- ---- of nodes: of each
 
-module _ (root : Document) where
-  nodes-append : (ss : List Segment) (xs ys : List Document) → nodes root ss (xs ++ ys) ≡ nodes root ss xs ++ nodes root ss ys
+  pub nodes-append : (ss : List (Segment S)) (xs ys : List Document) → nodes by ss (xs ++ ys) ≡ nodes by ss xs ++ nodes by ss ys
   nodes-append [] xs ys = refl
-  nodes-append (s ∷ ss) xs ys = ap (nodes root ss) (flat_map-append (selected_of root s) xs ys) ∙ nodes-append ss _ _
+  nodes-append (s ∷ ss) xs ys = ap (nodes by ss) (flat_map-append (selected_of by s) xs ys) ∙ nodes-append ss _ _
 
-  nodes-none : (ss : List Segment) → nodes root ss [] ≡ []
+  pub nodes-none : (ss : List (Segment S)) → nodes by ss [] ≡ []
   nodes-none [] = refl
   nodes-none (s ∷ ss) = nodes-none ss
 
-  pub nodes-each : (ss : List Segment) (ds : List Document) → nodes root ss ds ≡ flat_map (from_node root ss) ds
+  pub nodes-each : (ss : List (Segment S)) (ds : List Document) → nodes by ss ds ≡ flat_map (from_node ss) ds
   nodes-each ss [] = nodes-none ss
-  nodes-each ss (d ∷ ds) = nodes-append ss (d ∷ []) ds ∙ ap (λ xs. from_node root ss d ++ xs) (nodes-each ss ds)
+  nodes-each ss (d ∷ ds) = nodes-append ss (d ∷ []) ds ∙ ap (λ xs. from_node ss d ++ xs) (nodes-each ss ds)
 
-  from_node-cons : (s : Segment) (ss : List Segment) (d : Document)
-      → from_node root (s ∷ ss) d ≡ flat_map (from_node root ss) (selected_of root s d)
-  from_node-cons s ss d = ap (nodes root ss) (append-nil (selected_of root s d)) ∙ nodes-each ss (selected_of root s d)
+  from_node-cons : (s : Segment S) (ss : List (Segment S)) (d : Document)
+      → from_node (s ∷ ss) d ≡ flat_map (from_node ss) (selected_of by s d)
+  from_node-cons s ss d = ap (nodes by ss) (append-nil (selected_of by s d)) ∙ nodes-each ss (selected_of by s d)
 
 -- ---- a descendant segment is its selectors at the node, and itself at the children
 
@@ -64,12 +63,12 @@ visited-entered : (b : Bool) (d : Document) → visited b d ≡ d ∷ flat_map (
 visited-entered false d = refl
 visited-entered true d = descendants-children d
 
-module _ (root : Document) where
-  selected_of-entered : (s : Segment) (d : Document)
-      → selected_of root s d
-      ≡ followed s.steps.now (selected_by_all root s.selectors.now d) ++ flat_map (selected_of root s) (entered s.is_descendant d)
+module _ {S : Type 0} (by : S → Document → List Document) where
+  selected_of-entered : (s : Segment S) (d : Document)
+      → selected_of by s d
+      ≡ followed s.steps.now (by_all by s.selectors.now d) ++ flat_map (selected_of by s) (entered s.is_descendant d)
   selected_of-entered s d =
-      let sel = selected_by_all root s.selectors.now in
+      let sel = by_all by s.selectors.now in
       let on : Document → List Document = λ e. option_to_list (at_steps s.steps.now e) in
       let at = visited s.is_descendant in
       let below = entered s.is_descendant d in
@@ -78,17 +77,17 @@ module _ (root : Document) where
       ∙ ap (λ xs. flat_map on (sel d) ++ flat_map on xs) (flat_map-flat_map sel at below)
       ∙ ap (λ xs. flat_map on (sel d) ++ xs) (flat_map-flat_map on (λ e. flat_map sel (at e)) below)
 
-  pub from_node-step : (s : Segment) (ss : List Segment) (d : Document)
-      → from_node root (s ∷ ss) d
-      ≡ flat_map (from_node root ss) (followed s.steps.now (selected_by_all root s.selectors.now d))
-      ++ flat_map (from_node root (s ∷ ss)) (entered s.is_descendant d)
+  pub from_node-step : (s : Segment S) (ss : List (Segment S)) (d : Document)
+      → from_node by (s ∷ ss) d
+      ≡ flat_map (from_node by ss) (followed s.steps.now (by_all by s.selectors.now d))
+      ++ flat_map (from_node by (s ∷ ss)) (entered s.is_descendant d)
   from_node-step s ss d =
-      let sel = followed s.steps.now (selected_by_all root s.selectors.now d) in
+      let sel = followed s.steps.now (by_all by s.selectors.now d) in
       let below = entered s.is_descendant d in
-      from_node-cons root s ss d
-      ∙ ap (flat_map (from_node root ss)) (selected_of-entered s d)
-      ∙ flat_map-append (from_node root ss) sel (flat_map (selected_of root s) below)
-      ∙ ap (λ xs. flat_map (from_node root ss) sel ++ xs) (flat_map-flat_map (from_node root ss) (selected_of root s) below)
-      ∙ ap (λ xs. flat_map (from_node root ss) sel ++ xs)
-      (sym (flat_map-same (from_node root (s ∷ ss)) (λ e. flat_map (from_node root ss) (selected_of root s e)) (from_node-cons root s ss)
+      from_node-cons by s ss d
+      ∙ ap (flat_map (from_node by ss)) (selected_of-entered s d)
+      ∙ flat_map-append (from_node by ss) sel (flat_map (selected_of by s) below)
+      ∙ ap (λ xs. flat_map (from_node by ss) sel ++ xs) (flat_map-flat_map (from_node by ss) (selected_of by s) below)
+      ∙ ap (λ xs. flat_map (from_node by ss) sel ++ xs)
+      (sym (flat_map-same (from_node by (s ∷ ss)) (λ e. flat_map (from_node by ss) (selected_of by s e)) (from_node-cons by s ss)
       below))

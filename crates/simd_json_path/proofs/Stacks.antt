@@ -12,6 +12,7 @@ use Rattle.simd_json_path.specs.Frames.{frame_left, frame_effort, frames_left, f
 use Rattle.simd_json_path.specs.Room.{effort, is_container, selected_in}
 use Rattle.simd_json_path.specs.declared.frame.Frame.{Frame}
 use Rattle.simd_json_query.specs.declared.query.Segment.{Segment}
+use Rattle.simd_json_query.specs.declared.query.Selector.{Selector}
 use Rattle.simd_json_path.proofs.Bare.{bare-selected_in, scalar-selected_in}
 
 module _ (root : Document) where
@@ -104,26 +105,26 @@ match-more (Some x) none some is = some x is
 -- ---- a query at a value: it is selected, nothing is, or there is no room for it
 
 module _ (root : Document) where
-  pub selected-here : (room : ℕ) (ss : List Segment) (d : Document) → (length ss == 0) ≡ true → selected_in root room ss d ≡ Some d ∷ []
+  pub selected-here : (room : ℕ) (ss : List (Segment Selector)) (d : Document) → (length ss == 0) ≡ true → selected_in root room ss d ≡ Some d ∷ []
   selected-here room [] d none = refl
   selected-here room (s ∷ ss) d none = let empty : length (s ∷ ss) ≡ 0 = eqb-true _ _ none in absurd (omega arith)
 
-  pub selected-scalar : (room : ℕ) (ss : List Segment) (d : Document) → (length ss == 0) ≡ false → is_container d ≡ false
+  pub selected-scalar : (room : ℕ) (ss : List (Segment Selector)) (d : Document) → (length ss == 0) ≡ false → is_container d ≡ false
       → selected_in root room ss d ≡ []
   selected-scalar room [] d some scalar = cc
   selected-scalar room (s ∷ ss) d some scalar = scalar-selected_in root room s ss d scalar
 
-  pub selected-bare : (room : ℕ) (ss : List Segment) (d : Document) → (length ss == 0) ≡ false → children d ≡ []
+  pub selected-bare : (room : ℕ) (ss : List (Segment Selector)) (d : Document) → (length ss == 0) ≡ false → children d ≡ []
       → selected_in root (suc room) ss d ≡ []
   selected-bare room [] d some bare = cc
   selected-bare room (s ∷ ss) d some bare = bare-selected_in root room s ss d bare
 
-  pub selected-full : (ss : List Segment) (d : Document) → (length ss == 0) ≡ false → is_container d ≡ true
+  pub selected-full : (ss : List (Segment Selector)) (d : Document) → (length ss == 0) ≡ false → is_container d ≡ true
       → selected_in root 0 ss d ≡ None ∷ []
   selected-full [] d some is = cc
   selected-full (s ∷ ss) d some is = ap (λ b. cond b (None ∷ []) []) is
 
-  pub effort-some : (room : ℕ) (ss : List Segment) (d : Document) → 0 < effort root room ss d
+  pub effort-some : (room : ℕ) (ss : List (Segment Selector)) (d : Document) → 0 < effort root room ss d
   effort-some zero [] d = omega arith
   effort-some (suc room) [] d = omega arith
   effort-some zero (s ∷ ss) d = omega arith

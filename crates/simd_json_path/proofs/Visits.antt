@@ -8,17 +8,19 @@ use Rattle.std.proofs.lemmas.List.{append-nil}
 use Rattle.simd_json_parts.specs.Document.{Document}
 use Rattle.simd_json.specs.Beneath.{children}
 use Rattle.simd_json_path.specs.Leaves.{is_wildcard}
-use Rattle.simd_json_path.specs.Paths.{followed, selected_by_all}
+use Rattle.simd_json_path.specs.Nodes.{followed}
+use Rattle.simd_json_path.specs.Paths.{selected_by_all}
 use Rattle.simd_json_path.specs.Room.{effort, entered, selected_in}
 use Rattle.simd_json_query.specs.declared.filter.Step.{Step}
 use Rattle.simd_json_query.specs.declared.query.Segment.{Segment}
+use Rattle.simd_json_query.specs.declared.query.Choice.TheVariants as choice
 use Rattle.simd_json_query.specs.declared.query.Selector.{Selector}
 use Rattle.simd_json_query.specs.declared.query.Selector.TheVariants as selector
 
 module _ (root : Document) (room : ℕ) where
   -- ---- segments at a value: the first one's selectors, then the children
 
-  pub selected-at : (ss : List Segment) (z : Segment) (d : Document) (below : Bool) (xs cs : List Document) (e : Document)
+  pub selected-at : (ss : List (Segment Selector)) (z : Segment Selector) (d : Document) (below : Bool) (xs cs : List Document) (e : Document)
       → 0 < length ss → below ≡ false → xs ≡ selected_by_all root (slice_index_or ss 0 z).selectors.now d → e ≡ d
       → flat_map (selected_in root room (drop 1 ss)) (followed (slice_index_or ss 0 z).steps.now (cond below [] xs))
       ++ flat_map (selected_in root room ss) (cond below cs (entered (slice_index_or ss 0 z).is_descendant e))
@@ -31,7 +33,7 @@ module _ (root : Document) (room : ℕ) where
       ∙ ap (λ y. flat_map (selected_in root room ss) (followed s.steps.now (selected_by_all root s.selectors.now d))
       ++ flat_map (selected_in root room (s ∷ ss)) (entered s.is_descendant y)) same
 
-  pub effort-at : (ss : List Segment) (z : Segment) (d : Document) (below : Bool) (xs cs : List Document) (e : Document)
+  pub effort-at : (ss : List (Segment Selector)) (z : Segment Selector) (d : Document) (below : Bool) (xs cs : List Document) (e : Document)
       → 0 < length ss → below ≡ false → xs ≡ selected_by_all root (slice_index_or ss 0 z).selectors.now d → e ≡ d
       → 2 + (sum_by (effort root room (drop 1 ss)) (followed (slice_index_or ss 0 z).steps.now (cond below [] xs))
       + sum_by (effort root room ss) (cond below cs (entered (slice_index_or ss 0 z).is_descendant e)))
@@ -43,7 +45,7 @@ module _ (root : Document) (room : ℕ) where
       let there = ap (λ y. sum_by (effort root room (s ∷ ss)) (entered s.is_descendant y)) same in
       omega (arith, here, there)
 
-  pub effort-below : (ss : List Segment) (z : Segment) (d : Document) (below : Bool) (steps : List Step) (xs cs ys : List Document)
+  pub effort-below : (ss : List (Segment Selector)) (z : Segment Selector) (d : Document) (below : Bool) (steps : List Step) (xs cs ys : List Document)
       → 0 < length ss → below ≡ true → (slice_index_or ss 0 z).is_descendant ≡ true
       → selected_by_all root (slice_index_or ss 0 z).selectors.now d ≡ [] → cs ≡ children d
       → 2 + (sum_by (effort root room (drop 1 ss)) (followed steps (cond below [] xs))
@@ -59,7 +61,7 @@ module _ (root : Document) (room : ℕ) where
 
   -- ---- the selectors are finished, and the children are next
 
-  pub turned-left : (ss : List Segment) (steps : List Step) (below is : Bool) (xs ys cs : List Document) (d e : Document)
+  pub turned-left : (ss : List (Segment Selector)) (steps : List Step) (below is : Bool) (xs ys cs : List Document) (d e : Document)
       → below ≡ false → is ≡ true → followed steps xs ≡ [] → e ≡ d → cs ≡ children e
       → flat_map (selected_in root room (drop 1 ss)) (followed steps (cond below [] xs))
       ++ flat_map (selected_in root room ss) (cond below ys (entered is d))
@@ -71,7 +73,7 @@ module _ (root : Document) (room : ℕ) where
       ∙ ap (λ y. flat_map (selected_in root room ss) (children y)) (sym same)
       ∙ ap (flat_map (selected_in root room ss)) (sym all)
 
-  pub turned-effort : (ss : List Segment) (steps : List Step) (below is : Bool) (xs ys cs : List Document) (d e : Document)
+  pub turned-effort : (ss : List (Segment Selector)) (steps : List Step) (below is : Bool) (xs ys cs : List Document) (d e : Document)
       → below ≡ false → is ≡ true → followed steps xs ≡ [] → e ≡ d → cs ≡ children e
       → sum_by (effort root room (drop 1 ss)) (followed steps (cond below [] xs))
       + sum_by (effort root room ss) (cond below ys (entered is d))
@@ -92,14 +94,14 @@ module _ (root : Document) (room : ℕ) where
 
   all-children : (ss : List Selector) (d : Document) → is_wildcard ss ≡ true → selected_by_all root ss d ≡ children d
   all-children [] d is = cc
-  all-children (selector.Wildcard ∷ []) d is = append-nil (children d)
-  all-children (selector.Wildcard ∷ (t ∷ ts)) d is = cc
-  all-children (selector.Name name ∷ ts) d is = cc
-  all-children (selector.Index i ∷ ts) d is = cc
-  all-children (selector.Slice s ∷ ts) d is = cc
+  all-children (selector.Choice choice.Wildcard ∷ []) d is = append-nil (children d)
+  all-children (selector.Choice choice.Wildcard ∷ (t ∷ ts)) d is = cc
+  all-children (selector.Choice (choice.Name name) ∷ ts) d is = cc
+  all-children (selector.Choice (choice.Index i) ∷ ts) d is = cc
+  all-children (selector.Choice (choice.Slice s) ∷ ts) d is = cc
   all-children (selector.Filter test ∷ ts) d is = cc
 
-  pub wildcard-left : (ss : List Segment) (s : Segment) (others : List Segment) (d : Document) (cs : List Document)
+  pub wildcard-left : (ss : List (Segment Selector)) (s : Segment Selector) (others : List (Segment Selector)) (d : Document) (cs : List Document)
       → ss ≡ s ∷ others → (length others == 0) ≡ true → s.is_descendant ≡ false → is_wildcard s.selectors.now ≡ true
       → cs ≡ children d → selected_in root (suc room) ss d ≡ map Some (followed s.steps.now cs)
   wildcard-left ss s (o ∷ os) d cs is last off only all =

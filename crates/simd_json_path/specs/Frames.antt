@@ -5,7 +5,8 @@ use Rattle.std.specs.List.{flat_map, sum_by}
 use Rattle.simd_json_parts.specs.Document.{Document}
 use Rattle.simd_json.specs.Viewed.{doc}
 use Rattle.simd_json_path.specs.Filters.{holds}
-use Rattle.simd_json_path.specs.Paths.{followed, selected_by_all}
+use Rattle.simd_json_path.specs.Nodes.{followed}
+use Rattle.simd_json_path.specs.Paths.{selected_by_all}
 use Rattle.simd_json_path.specs.Room.{selected_in, effort, entered}
 use Rattle.simd_json_path.specs.Sliced.{children_left}
 use Rattle.simd_json_query.specs.declared.filter.Test.{Test}

@@ -6,9 +6,11 @@ use Rattle.std.specs.List.{flat_map, sum_by}
 use Rattle.simd_json_parts.specs.Document.{Document}
 use Rattle.simd_json_parts.specs.Views.{is_array, is_object}
 use Rattle.simd_json.specs.Beneath.{children}
-use Rattle.simd_json_path.specs.Paths.{followed, selected_by_all}
+use Rattle.simd_json_path.specs.Nodes.{followed}
+use Rattle.simd_json_path.specs.Paths.{selected_by_all}
 use Rattle.simd_json_path.specs.declared.path.Path.{Path}
 use Rattle.simd_json_query.specs.declared.query.Segment.{Segment}
+use Rattle.simd_json_query.specs.declared.query.Selector.{Selector}
 
 -- it may have children
 abbrev pub is_container : Document → Bool
@@ -19,7 +21,7 @@ abbrev pub entered : Bool → Document → List Document
 entered false d = []
 entered true d = children d
 
-abbrev pub selected_in : Document → ℕ → List Segment → Document → List (Option Document)
+abbrev pub selected_in : Document → ℕ → List (Segment Selector) → Document → List (Option Document)
 selected_in root room [] d = Some d ∷ []
 selected_in root zero (s ∷ ss) d = cond (is_container d) (None ∷ []) []
 selected_in root (suc room) (s ∷ ss) d =
@@ -30,7 +32,7 @@ abbrev pub selected_within : ℕ → Path → Document → List (Option Document
 selected_within room path d = flat_map (selected_in d room path.segments.now) (followed path.steps.now (d ∷ []))
 
 -- how many steps that takes: one for the value, one to open it, and those of what is in it
-abbrev pub effort : Document → ℕ → List Segment → Document → ℕ
+abbrev pub effort : Document → ℕ → List (Segment Selector) → Document → ℕ
 effort root room [] d = 1
 effort root zero (s ∷ ss) d = 1
 effort root (suc room) (s ∷ ss) d =
@@ -40,7 +42,7 @@ effort root (suc room) (s ∷ ss) d =
 -- ---- how much room suffices for values that nest so deep
 
 -- no segment is a descendant segment
-abbrev pub are_children : List Segment → Bool
+abbrev pub are_children : List (Segment Selector) → Bool
 are_children [] = true
 are_children (s ∷ ss) = not s.is_descendant && are_children ss
 

@@ -2,10 +2,12 @@
 ghost use Rattle.std.specs.Prelude.{◌≡◌, option_map};
 ghost use Rattle.simd_json.specs.Viewed.{doc};
 ghost use Rattle.simd_json_parts.specs.Views.{get};
-ghost use Rattle.simd_json_path.specs.Filters.{at_step, at_steps, holds, selected_node};
+ghost use Rattle.simd_json_path.specs.Filters.{holds, selected_node};
+ghost use Rattle.simd_json_path.specs.Nodes.{at_step, at_steps};
 
 use crate::children::at_index;
 use crate::operand::{compares, operand_of};
+use crate::queried::exists;
 use bumpalo::Bump;
 use simd_json::tape::Value;
 use simd_json_query::{PathError, SingularQuery, Step, Test, read_filter};
@@ -36,7 +38,8 @@ impl<'path> Filter<'path> {
     }
 
     /// Whether the value passes the test (section 2.3.5.2). It allocates nothing, and recurses no
-    /// deeper than parentheses, `!` and `length` are nested in the test.
+    /// deeper than parentheses, `!` and `length` are nested in the test; and in a query of it, once
+    /// for each of its segments, or with a descendant segment once for each level of the value.
     pub fn holds(&self, value: &Value<'_, '_>) -> bool
         ensures { result ≡ holds (doc value.now) self.now.test.now (doc value.now) }
     {
@@ -52,7 +55,7 @@ pub(crate) fn holds(test: &Test<'_>, root: Value<'_, '_>, node: Value<'_, '_>) -
     let mut last = test;
     'operands: loop {
         match last {
-            Test::Exists(query) => return selected_node(query, root, node).is_some(),
+            Test::Exists(query) => return exists(query, root, node),
             Test::Compare(left, comparison, right) => {
                 let left = operand_of(left, root, node);
                 return compares(left, *comparison, operand_of(right, root, node));
@@ -74,7 +77,7 @@ pub(crate) fn holds(test: &Test<'_>, root: Value<'_, '_>, node: Value<'_, '_>) -
     }
 }
 
-// The node that a query selects.
+// The node that a singular query selects.
 pub(crate) fn selected_node<'tape, 'input>(
     query: &SingularQuery<'_>,
     root: Value<'tape, 'input>,

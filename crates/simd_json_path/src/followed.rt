@@ -3,7 +3,7 @@ ghost use Rattle.std.specs.Iterator.{YieldsFirstBy};
 ghost use Rattle.std.specs.Prelude.{◌≡◌};
 ghost use Rattle.simd_json.specs.Viewed.{doc};
 ghost use Rattle.simd_json_path.specs.Frames.{opened_left};
-ghost use Rattle.simd_json_path.specs.Paths.{followed};
+ghost use Rattle.simd_json_path.specs.Nodes.{followed};
 
 use crate::filter::follow;
 use crate::opened::Opened;

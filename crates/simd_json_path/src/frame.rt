@@ -1,9 +1,9 @@
 //! A value at which a segment goes on.
 ghost use Rattle.std.specs.Prelude.{◌≡◌, ◌<◌, length};
 
+use crate::children::Children;
 use crate::followed::next_followed;
 use crate::opened::Opened;
-use crate::picked::Picked;
 use simd_json::tape::Value;
 use simd_json_query::{Segment, Step};
 
@@ -72,7 +72,7 @@ impl<'path, 'tape, 'input> Frame<'path, 'tape, 'input> {
         self.segments = segments;
         self.is_below = first.is_descendant && opened.is_done();
         if self.is_below {
-            self.opened.picked = Picked::all(value);
+            self.opened.picked.children = Children::of(value);
             return;
         }
         self.steps = first.steps;
@@ -107,7 +107,7 @@ impl<'path, 'tape, 'input> Frame<'path, 'tape, 'input> {
             return None;
         }
         self.is_below = true;
-        self.opened.picked = Picked::all(self.opened.value);
+        self.opened.picked.children = Children::of(self.opened.value);
         self.next_below()
     }
 

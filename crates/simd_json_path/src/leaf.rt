@@ -1,13 +1,13 @@
 //! What a last segment selects of one value, where its only selector is a wildcard: without a frame.
 ghost use Rattle.std.specs.Prelude.{◌≡◌, option_map};
 ghost use Rattle.simd_json.specs.Viewed.{doc};
-ghost use Rattle.simd_json_path.specs.Filters.{at_steps};
 ghost use Rattle.simd_json_path.specs.Leaves.{is_wildcard, way_steps};
+ghost use Rattle.simd_json_path.specs.Nodes.{at_steps};
 
 use crate::children::Children;
 use crate::filter::follow;
 use simd_json::tape::Value;
-use simd_json_query::{Segment, Selector, Step};
+use simd_json_query::{Choice, Segment, Selector, Step};
 
 // Where steps lead from a child.
 #[derive(Clone, Copy)]
@@ -114,5 +114,11 @@ fn follow_steps<'tape, 'input>(
 fn is_wildcard(selectors: &[Selector<'_>]) -> bool
     ensures { result ≡ is_wildcard selectors.now }
 {
-    selectors.len() == 1 && matches!(selectors[0], Selector::Wildcard)
+    let Some((first, others)) = selectors.split_first() else {
+        return false;
+    };
+    match first {
+        Selector::Choice(choice) => others.is_empty() && matches!(choice, Choice::Wildcard),
+        Selector::Filter(_) => false,
+    }
 }

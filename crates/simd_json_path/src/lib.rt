@@ -2,7 +2,7 @@
 //!
 //! A [`Path`] is a query, which [`Path::new`] reads from text into an arena; or slices of segments,
 //! selectors and tests, in constants or on the stack. [`Path::select`] is an iterator over what it
-//! selects, in order, which allocates nothing and does not recurse: it keeps its place in
+//! selects, in order, which allocates nothing and recurses in filters alone: it keeps its place in
 //! [`Frame`]s that the caller lends.
 //!
 //! ```
@@ -28,13 +28,13 @@
 //!
 //! | RFC 9535 | here |
 //! |---|---|
-//! | name, wildcard, index, slice selectors (2.3.1 to 2.3.4) | [`Selector`] |
-//! | filter selectors (2.3.5): existence and comparisons of singular queries, `!`, `&&`, `\|\|` | [`Test`] |
-//! | `length`, `count` and `value` (2.4) of singular queries | [`Comparable`] |
+//! | name, wildcard, index, slice selectors (2.3.1 to 2.3.4) | [`Choice`] |
+//! | filter selectors (2.3.5): existence of queries, comparisons, `!`, `&&`, `\|\|` | [`Selector`], [`Test`] |
+//! | `length`, `count` and `value` (2.4) | [`Comparable`] |
 //! | a filter by itself, of one value | [`Filter`], [`Filter::new`] |
 //! | child and descendant segments (2.5) | [`Segment`] |
 //! | a query's text | [`Path::new`] |
-//! | `match`, `search`, other queries in filters, normalized paths (2.7) | not yet |
+//! | `match`, `search`, filters in a filter's query, normalized paths (2.7) | not yet |
 //!
 //! The RFC leaves the order of an object's members open: here it is the text's. Of equal names a
 //! name selects the first; wildcards and descendant segments visit all.
@@ -45,6 +45,11 @@
 //! recurses to at most 128 levels of arrays and objects; what is nested deeper is equal where it is
 //! written in the same order with the same literals. Its time grows with the square of the number
 //! of an object's members.
+//!
+//! The queries of a filter take no frames. Each is evaluated for each value that is tested, up to
+//! its first node where the filter asks whether there is one, and up to the second for `value`. It
+//! recurses once for each segment after the first steps, and where one is a descendant segment at
+//! most once for each level of the value. `count` returns at most `usize::MAX`.
 //!
 //! # Frames
 //!
@@ -73,6 +78,7 @@ mod opened;
 mod operand;
 mod path;
 mod picked;
+mod queried;
 mod same;
 mod scalar;
 mod selected;
@@ -83,6 +89,6 @@ pub use frame::Frame;
 pub use path::Path;
 pub use selected::{Selected, TooFewFrames};
 pub use simd_json_query::{
-    Comparable, Comparison, Literal, PathError, PathExpected, Segment, Selector, SingularQuery,
-    Slice, Step, Test,
+    Choice, Comparable, Comparison, Literal, PathError, PathExpected, Query, Segment, Selector,
+    SingularQuery, Slice, Step, Test,
 };

@@ -1,17 +1,18 @@
 //! What a comparison compares (RFC 9535, section 2.3.5.1).
-ghost use Rattle.std.specs.Prelude.{◌≡◌, Some, cond, is_none, length, option_and_then, option_map};
+ghost use Rattle.std.specs.Prelude.{◌≡◌, Some, is_none, length, option_and_then, option_map};
 ghost use Rattle.std.specs.Str.{chars};
 ghost use Rattle.simd_json.specs.Viewed.{doc};
 ghost use Rattle.simd_json_path.specs.Comparisons.{both, compares, equals, is_less, primitive};
 ghost use Rattle.simd_json_path.specs.Comparisons.{same_primitives};
-ghost use Rattle.simd_json_path.specs.Filters.{length_of, operand, selected_node};
+ghost use Rattle.simd_json_path.specs.Filters.{length_of, operand};
 ghost use Rattle.simd_json_path.specs.Operands.{operand_value, scalar_value};
 
 use crate::filter::selected_node;
+use crate::queried::{count, only};
 use crate::same::same_to;
 use crate::scalar::Scalar;
 use simd_json::tape::Value;
-use simd_json_query::{Comparable, Comparison, Literal, SingularQuery};
+use simd_json_query::{Comparable, Comparison, Literal};
 
 // A value, or nothing.
 #[derive(Clone, Copy)]
@@ -36,29 +37,19 @@ pub(crate) fn operand_of<'path, 'tape, 'input>(
 {
     match comparable {
         Comparable::Literal(literal) => Operand::Literal(*literal),
-        Comparable::Query(query) => node_of(query, root, node),
+        Comparable::Query(query) => one_or_nothing(selected_node(query, root, node)),
         Comparable::Length(argument) => length_of(operand_of(argument, root, node)),
-        Comparable::Count(query) => {
-            Operand::Count(one_if(selected_node(query, root, node).is_some()))
-        }
-        Comparable::Value(query) => node_of(query, root, node),
+        Comparable::Count(query) => Operand::Count(count(query, root, node)),
+        Comparable::Value(query) => one_or_nothing(only(query, root, node)),
     }
 }
 
-fn one_if(holds: bool) -> usize
-    ensures { result ≡ cond holds 1 0 }
-{
-    if holds { 1 } else { 0 }
-}
-
-fn node_of<'path, 'tape, 'input>(
-    query: &SingularQuery<'path>,
-    root: Value<'tape, 'input>,
-    node: Value<'tape, 'input>,
+fn one_or_nothing<'path, 'tape, 'input>(
+    value: Option<Value<'tape, 'input>>,
 ) -> Operand<'path, 'tape, 'input>
-    ensures { operand_value result ≡ selected_node (doc root.entry) query.now (doc node.entry) }
+    ensures { operand_value result ≡ option_map doc value.entry }
 {
-    match selected_node(query, root, node) {
+    match value {
         Some(value) => Operand::Node(value),
         None => Operand::Nothing,
     }

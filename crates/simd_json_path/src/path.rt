@@ -32,8 +32,7 @@ impl<'path> Path<'path> {
     /// The query of a text, in an arena.
     ///
     /// Returns where the text is no query, and what it lacks there, or `Memory` where an allocation
-    /// fails. Queries in filters select at most one node, of names and indexes alone; `match` and
-    /// `search` are rejected.
+    /// fails. A filter in a filter's query, `match` and `search` are rejected.
     pub fn new<A: Allocator>(arena: &'path Bump<A>, text: &str) -> Result<Path<'path>, PathError>
         ensures { IfOk result (λ path. Query path.steps.now path.segments.now text.now) }
     {

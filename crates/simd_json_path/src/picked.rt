@@ -1,8 +1,13 @@
 //! What one selector selects of one value.
+ghost use Rattle.std.specs.Prelude.{◌≡◌};
+ghost use Rattle.simd_json.specs.Viewed.{doc};
+ghost use Rattle.simd_json_path.specs.Nodes.{chosen_by};
+ghost use Rattle.simd_json_path.specs.Sliced.{children_left};
+
 use crate::children::{Children, at_index};
 use crate::filter::{holds, member};
 use simd_json::tape::Value;
-use simd_json_query::{Selector, Test};
+use simd_json_query::{Choice, Selector, Test};
 
 // What is left of what a selector selects: those of the children that pass the test, if any.
 #[derive(Clone, Copy)]
@@ -14,11 +19,9 @@ pub(crate) struct Picked<'path, 'tape, 'input> {
 impl<'path, 'tape, 'input> Picked<'path, 'tape, 'input> {
     ghost use Rattle.std.specs.Prelude.{◌≡◌, [], true};
     ghost use Rattle.std.specs.Iterator.{YieldsFirstBy};
-    ghost use Rattle.simd_json.specs.Beneath.{children};
     ghost use Rattle.simd_json.specs.Viewed.{doc};
     ghost use Rattle.simd_json_parts.specs.Document.{Document};
     ghost use Rattle.simd_json_path.specs.Frames.{picked_left};
-    ghost use Rattle.simd_json_path.specs.Sliced.{children_left};
     ghost use Rattle.simd_json_path.specs.Paths.{selected_by};
 
     #[inline(always)]
@@ -26,32 +29,15 @@ impl<'path, 'tape, 'input> Picked<'path, 'tape, 'input> {
         ensures { (root : Document)
             → picked_left root result ≡ selected_by root selector.now (doc value.entry) }
     {
-        if let Selector::Filter(test) = selector {
-            return Picked {
+        match selector {
+            Selector::Choice(choice) => Picked {
+                children: chosen(choice, value),
+                test: None,
+            },
+            Selector::Filter(test) => Picked {
                 children: Children::of(value),
                 test: Some(test),
-            };
-        }
-        let children = match selector {
-            Selector::Name(name) => Children::of_option(member(value, name)),
-            Selector::Index(index) => Children::of_option(at_index(value, *index)),
-            Selector::Slice(slice) => Children::in_slice(slice, value),
-            _ => Children::of(value),
-        };
-        Picked {
-            children,
-            test: None,
-        }
-    }
-
-    // All children.
-    #[inline(always)]
-    pub(crate) fn all(value: Value<'tape, 'input>) -> Self
-        ensures children { children_left result.children ≡ children (doc value.entry) }
-    {
-        Picked {
-            children: Children::of(value),
-            test: None,
+            },
         }
     }
 
@@ -79,5 +65,21 @@ impl<'path, 'tape, 'input> Picked<'path, 'tape, 'input> {
                 return Some(value);
             }
         }
+    }
+}
+
+// What a selector by name or place selects.
+#[inline(always)]
+pub(crate) fn chosen<'tape, 'input>(
+    choice: &Choice<'_>,
+    value: Value<'tape, 'input>,
+) -> Children<'tape, 'input>
+    ensures { children_left result ≡ chosen_by choice.now (doc value.entry) }
+{
+    match choice {
+        Choice::Name(name) => Children::of_option(member(value, name)),
+        Choice::Wildcard => Children::of(value),
+        Choice::Index(index) => Children::of_option(at_index(value, *index)),
+        Choice::Slice(slice) => Children::in_slice(slice, value),
     }
 }

@@ -1,5 +1,7 @@
 use simd_json::to_tape;
-use simd_json_path::{Frame, Path, Segment, Selector, TooFewFrames};
+use simd_json_path::{
+    Choice, Frame, Path, Query, Segment, Selector, SingularQuery, TooFewFrames,
+};
 use std::process::Abort;
 use std::test::Fail;
 
@@ -7,14 +9,33 @@ mod comparisons;
 mod examples;
 mod filters;
 mod frames;
+mod queries;
 mod segments;
 mod selectors;
 mod texts;
 
 type Tested = std::result::Result<(), Fail>;
 
+const ALL: Selector<'static> = Selector::Choice(Choice::Wildcard);
+
+fn name<'path>(name: &'path str) -> Selector<'path> {
+    Selector::Choice(Choice::Name(name))
+}
+
+fn index(index: i64) -> Selector<'static> {
+    Selector::Choice(Choice::Index(index))
+}
+
+// A query of at most one node.
+fn singular<'path>(start: SingularQuery<'path>) -> Query<'path> {
+    Query {
+        start,
+        segments: &[],
+    }
+}
+
 // A child segment without steps.
-fn child<'path>(selectors: &'path [Selector<'path>]) -> Segment<'path> {
+fn child<'path>(selectors: &'path [Selector<'path>]) -> Segment<'path, Selector<'path>> {
     Segment {
         selectors,
         is_descendant: false,
@@ -23,7 +44,7 @@ fn child<'path>(selectors: &'path [Selector<'path>]) -> Segment<'path> {
 }
 
 // A descendant segment without steps.
-fn descendant<'path>(selectors: &'path [Selector<'path>]) -> Segment<'path> {
+fn descendant<'path>(selectors: &'path [Selector<'path>]) -> Segment<'path, Selector<'path>> {
     Segment {
         selectors,
         is_descendant: true,
@@ -35,7 +56,7 @@ fn descendant<'path>(selectors: &'path [Selector<'path>]) -> Segment<'path> {
 fn assert_selects(
     rt: &(impl AllocGlobal + Abort),
     document: &str,
-    segments: &[Segment<'_>],
+    segments: &[Segment<'_, Selector<'_>>],
     wanted: &[&str],
 ) {
     let path = Path {
@@ -72,7 +93,7 @@ fn assert_path_selects(
 fn items(
     rt: &(impl AllocGlobal + Abort),
     document: &str,
-    segments: &[Segment<'_>],
+    segments: &[Segment<'_, Selector<'_>>],
     count: usize,
 ) -> String {
     let path = Path {

@@ -10,3 +10,7 @@ pub found-is : {A E : Type 0} (P Q : A → Type 0) (r : Result (Option A) E) →
 found-is P Q (Ok (Some a)) implies said = implies a said
 found-is P Q (Ok None) implies said = tt
 found-is P Q (Err e) implies said = tt
+
+pub ok-is : {A E : Type 0} (P Q : A → Type 0) (r : Result A E) → ((a : A) → P a → Q a) → IfOk r P → IfOk r Q
+ok-is P Q (Ok a) implies said = implies a said
+ok-is P Q (Err e) implies said = tt

@@ -5,6 +5,7 @@ pub mod Numbers
 pub mod Numerals
 pub mod Characters
 pub mod Lists
+pub mod Openings
 pub mod Words
 pub mod Operands
 pub mod Tests

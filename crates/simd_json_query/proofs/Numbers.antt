@@ -1,9 +1,9 @@
 -- Digits that are read one after the other.
-use Rattle.std.proofs.Common.{◌≡◌, ◌≢◌, ◌∙◌, ap, sym, refl, ◌<◌, ◌≤◌, ◌+◌, ◌*◌, ◌^◌, ℕ, List, [], ◌∷◌, ◌++◌, Bool, true, append_assoc}
+use Rattle.std.proofs.Common.{◌≡◌, ◌≢◌, ◌∙◌, ap, sym, refl, ◌<◌, ◌+◌, ◌*◌, ◌^◌, ℕ, List, [], ◌∷◌, ◌++◌, append_assoc}
 use Rattle.std.proofs.Common.{arith}
-use Rattle.std.specs.Prelude.{encode_utf8, encode_utf8_all, map, nat_lt}
+use Rattle.std.specs.Prelude.{encode_utf8, encode_utf8_all, map}
 use Rattle.std.specs.Char.{digit_value}
-use Rattle.std.specs.Int.Digits.{number_from_digits, number_from_digits_after}
+use Rattle.std.specs.Int.Digits.{number_from_digits}
 use Rattle.std.proofs.lemmas.Int.Digits.{number_after_append}
 use Rattle.std.proofs.lemmas.List.{append-nil, map-append}
 use Rattle.simd_json_query.specs.Steps.{IsNumeral, Natural, is_decimal}

@@ -2,10 +2,12 @@
 use Rattle.std.proofs.Common.{◌≡◌, inl, subst, sym, ℕ, suc, List, [], ◌∷◌, ◌++◌}
 use Rattle.std.specs.Prelude.{codes}
 use Rattle.simd_json_query.specs.Filters.{Basic, ComparableText, Conjunction, Logical, Nested, Operands, OperatorText, Word}
-use Rattle.simd_json_query.specs.Filters.{left_parenthesis, right_parenthesis}
+use Rattle.simd_json_query.specs.Filters.{PlainSegments, QueryText, SingularText, left_parenthesis, right_parenthesis}
 use Rattle.simd_json_query.specs.Spans.{◌then◌, Mark}
 use Rattle.simd_json_query.specs.Steps.{Blanks}
 use Rattle.simd_json_query.specs.declared.filter.Comparable.{Comparable}
+use Rattle.simd_json_query.specs.declared.filter.Comparable as comparable
+use Rattle.simd_json_query.specs.declared.filter.Query.{Query}
 use Rattle.simd_json_query.specs.declared.filter.Comparison.{Comparison}
 use Rattle.simd_json_query.specs.declared.filter.Test.{Test, Compare, And', Or'}
 use Rattle.simd_json_query.proofs.Operands.{many-last}
@@ -59,8 +61,16 @@ and-last nesting ts t text m rest none operands test =
     let same : text ≡ m = subst (λ l. Operands (Basic (Nested nesting)) (codes "&&") l text m) none operands in
     subst (λ bs. Conjunction (Nested nesting) t bs rest) (sym same) test
 
-pub compare-basic : (N : Test → List ℕ → List ℕ → Type 0) (a b : Comparable) (op : Comparison) (text others end behind begin rest : List ℕ)
-    → ComparableText a text others → Blanks others end → OperatorText op end behind → Blanks behind begin → ComparableText b begin rest
+pub compare-basic : (N : Test → List ℕ → List ℕ → Type 0) (a b : Comparable) (op : Comparison) (text behind begin rest : List ℕ)
+    → (ComparableText a then Blanks then OperatorText op) text behind → Blanks behind begin → ComparableText b begin rest
     → Basic N (Compare a op b) text rest
-compare-basic N a b op text others end behind begin rest left before is after right =
+compare-basic N a b op text behind begin rest (others, left, (end, before, is)) after right =
     inl (others, left, (end, before, (behind, is, (begin, after, right))))
+
+-- the left side of a comparison, read as a query of any segments
+pub query-left : (q : Query) (op : Comparison) (text others end behind : List ℕ) → QueryText q text others → q.segments.now ≡ []
+    → Blanks others end → OperatorText op end behind
+    → (ComparableText (comparable.Query q.start) then Blanks then OperatorText op) text behind
+query-left q op text others end behind (few, (m, start, segments)) none before is =
+    let same : m ≡ others = subst (λ ss. PlainSegments ss m others) none segments in
+    (others, subst (λ bs. SingularText q.start text bs) same start, (end, before, is))

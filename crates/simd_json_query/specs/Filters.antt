@@ -1,7 +1,9 @@
 -- The grammar of a filter's test (RFC 9535, section 2.3.5.1): which text is which logical expression.
-use Rattle.std.specs.Prelude.{ℕ, zero, suc, List, ◌++◌, ◌≡◌, Bool, true, false, codes}
+use Rattle.std.specs.Prelude.{ℕ, zero, suc, List, ◌++◌, ◌≡◌, ◌≤◌, Bool, true, false, codes, length}
 use Rattle.simd_json_parts.specs.Numbers.{number_literal}
 use Rattle.simd_json_parts.specs.Patterns.{Matches}
+use Rattle.simd_json_query.specs.Choices.{ChoiceText}
+use Rattle.simd_json_query.specs.Segments.{Segments, SegmentText}
 use Rattle.simd_json_query.specs.Steps.{Blanks, StringText, Steps, dollar}
 use Rattle.simd_json_query.specs.Spans.{◌then◌, ◌or◌, Many, Mark, Nothing}
 use Rattle.simd_json_query.specs.declared.filter.Comparable.{Comparable, Length'}
@@ -10,8 +12,11 @@ use Rattle.simd_json_query.specs.declared.filter.Comparison.{Comparison}
 use Rattle.simd_json_query.specs.declared.filter.Comparison.TheVariants as comparison
 use Rattle.simd_json_query.specs.declared.filter.Literal.{Literal}
 use Rattle.simd_json_query.specs.declared.filter.Literal.TheVariants as literal
+use Rattle.simd_json_query.specs.declared.filter.Query.{Query}
 use Rattle.simd_json_query.specs.declared.filter.SingularQuery.{SingularQuery}
 use Rattle.simd_json_query.specs.declared.filter.SingularQuery.TheVariants as query
+use Rattle.simd_json_query.specs.declared.query.Choice.{Choice}
+use Rattle.simd_json_query.specs.declared.query.Segment.{Segment}
 use Rattle.simd_json_query.specs.declared.filter.Test.{Test, Exists, Compare, Not', And', Or'}
 
 -- ---- characters
@@ -53,6 +58,21 @@ abbrev pub SingularText : SingularQuery → List ℕ → List ℕ → Type 0
 SingularText (query.Relative steps) = Mark at_sign then Steps steps.now
 SingularText (query.Absolute steps) = Mark dollar then Steps steps.now
 
+-- ---- queries without filters, of so many segments
+
+abbrev pub max_segments : ℕ
+max_segments = 100
+
+abbrev pub PlainSegment : Bool → List Choice → List ℕ → List ℕ → Type 0
+PlainSegment = SegmentText ChoiceText (λ c. c)
+
+abbrev pub PlainSegments : List (Segment Choice) → List ℕ → List ℕ → Type 0
+PlainSegments = Segments PlainSegment
+
+abbrev pub QueryText : Query → List ℕ → List ℕ → Type 0
+QueryText q text rest =
+    (length q.segments.now ≤ max_segments) × (SingularText q.start then PlainSegments q.segments.now) text rest
+
 -- ---- functions (section 2.4) of one argument
 
 abbrev pub Call : List ℕ → (List ℕ → List ℕ → Type 0) → List ℕ → List ℕ → Type 0
@@ -64,8 +84,8 @@ abbrev pub ComparableText : Comparable → List ℕ → List ℕ → Type 0
 ComparableText (comparable.Literal l) = LiteralText l
 ComparableText (comparable.Query q) = SingularText q
 ComparableText (Length' p c) = Call (codes "length(") (ComparableText c)
-ComparableText (comparable.Count q) = Call (codes "count(") (SingularText q)
-ComparableText (comparable.Value q) = Call (codes "value(") (SingularText q)
+ComparableText (comparable.Count q) = Call (codes "count(") (QueryText q)
+ComparableText (comparable.Value q) = Call (codes "value(") (QueryText q)
 
 abbrev pub OperatorText : Comparison → List ℕ → List ℕ → Type 0
 OperatorText comparison.Equal = Word (codes "==")
@@ -79,11 +99,11 @@ OperatorText comparison.GreaterOrEqual = Word (codes ">=")
 
 -- what may follow `!`
 abbrev pub Denied : (Test → List ℕ → List ℕ → Type 0) → Test → List ℕ → List ℕ → Type 0
-Denied Enclosed (Exists q) = SingularText q or Enclosed (Exists q)
+Denied Enclosed (Exists q) = QueryText q or Enclosed (Exists q)
 Denied Enclosed t = Enclosed t
 
 abbrev pub Basic : (Test → List ℕ → List ℕ → Type 0) → Test → List ℕ → List ℕ → Type 0
-Basic Enclosed (Exists q) = SingularText q or Enclosed (Exists q)
+Basic Enclosed (Exists q) = QueryText q or Enclosed (Exists q)
 Basic Enclosed (Compare a op b) =
     ComparableText a then Blanks then OperatorText op then Blanks then ComparableText b or Enclosed (Compare a op b)
 Basic Enclosed (Not' p t) = Mark exclamation_mark then Blanks then Denied Enclosed t or Enclosed (Not' p t)

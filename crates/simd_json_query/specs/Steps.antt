@@ -1,12 +1,12 @@
 -- The grammar of a query's smallest parts (RFC 9535), and of its steps.
-use Rattle.std.specs.Prelude.{◌≡◌, ◌≢◌, ◌⊎◌, ◌<◌, ◌≤◌, ℕ, ◌+◌, ◌^◌, ℤ, pos, neg_ℤ, List, [], ◌∷◌, ◌++◌, drop, map, Bool, true, ◌&&◌, ◌||◌}
+use Rattle.std.specs.Prelude.{◌≡◌, ◌≢◌, ◌<◌, ◌≤◌, ℕ, ◌+◌, ◌^◌, ℤ, pos, neg_ℤ, List, [], ◌∷◌, ◌++◌, drop, map, Bool, true, ◌||◌}
 use Rattle.std.specs.Prelude.{◌==◌}
-use Rattle.std.specs.Prelude.{Option, Some, None, nat_lt, encode_utf8, encode_utf8_all}
+use Rattle.std.specs.Prelude.{Some, nat_lt, encode_utf8, encode_utf8_all}
 use Rattle.std.specs.Char.{digit_value, is_digit, is_ascii_digit, is_ascii_alphabetic}
 use Rattle.std.specs.Int.Digits.{number_from_digits}
 use Rattle.simd_json_parts.specs.Bytes.{backslash, byte_at, is_whitespace, left_bracket, minus_sign, quote, right_bracket}
 use Rattle.simd_json_parts.specs.StringAt.{escape_at}
-use Rattle.simd_json_query.specs.Spans.{◌then◌, ◌or◌, Empty, Many, Mark, Nothing, Run}
+use Rattle.simd_json_query.specs.Spans.{◌then◌, ◌or◌, Many, Mark, Nothing, Run}
 use Rattle.simd_json_query.specs.declared.filter.Step.{Step}
 use Rattle.simd_json_query.specs.declared.filter.Step.TheVariants as step
 

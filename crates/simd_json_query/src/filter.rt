@@ -1,4 +1,6 @@
 //! Filters (RFC 9535, section 2.3.5): tests of a node.
+use crate::query::{Choice, Segment};
+
 /// A step from a node to one of its children: a segment of one name or one index.
 #[derive(Clone, Copy, Debug)]
 pub enum Step<'path> {
@@ -15,6 +17,16 @@ pub enum SingularQuery<'path> {
     Relative(&'path [Step<'path>]),
     /// From the value that the whole query is applied to: `$`.
     Absolute(&'path [Step<'path>]),
+}
+
+/// A query in a filter (section 2.3.5.1), which holds no filter itself.
+#[derive(Clone, Copy)]
+pub struct Query<'path> {
+    /// From where the first segment selects.
+    pub start: SingularQuery<'path>,
+    /// Each selects of the nodes that the one before it selected. Without any the query is
+    /// singular. What [`read`](crate::read) returns has at most 100.
+    pub segments: &'path [Segment<'path, Choice<'path>>],
 }
 
 /// A value that a filter spells (section 2.3.5.1).
@@ -41,9 +53,9 @@ pub enum Comparable<'path> {
     /// an object's members; nothing of other values, and of nothing.
     Length(&'path Comparable<'path>),
     /// `count` (section 2.4.5): how many nodes a query selects.
-    Count(SingularQuery<'path>),
+    Count(Query<'path>),
     /// `value` (section 2.4.8): the value of the only node that a query selects; else nothing.
-    Value(SingularQuery<'path>),
+    Value(Query<'path>),
 }
 
 /// How two values are compared (section 2.3.5.2.2).
@@ -70,7 +82,7 @@ pub enum Comparison {
 #[derive(Clone, Copy)]
 pub enum Test<'path> {
     /// The query selects a node, whatever its value.
-    Exists(SingularQuery<'path>),
+    Exists(Query<'path>),
     /// A comparison of two values.
     Compare(Comparable<'path>, Comparison, Comparable<'path>),
     /// The test fails.

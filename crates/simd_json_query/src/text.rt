@@ -3,21 +3,27 @@ ghost use Rattle.std.specs.Prelude.{◌≤◌, length, IfErr, IfOk};
 ghost use Rattle.simd_json_query.specs.Queries.{FilterText, Query};
 
 use crate::filter::{Step, Test};
-use crate::query::Segment;
+use crate::query::{Segment, Selector};
 use bumpalo::Bump;
 use std::alloc::Allocator;
 use std::fmt;
 
+mod choices;
 mod comparables;
+mod comparisons;
 mod cursor;
 mod filters;
 mod integers;
 mod literals;
 mod names;
+mod openings;
+mod plain;
+mod queries;
 mod segments;
 mod selectors;
 mod steps;
 mod strings;
+mod whole;
 
 use cursor::Stop;
 
@@ -54,9 +60,13 @@ pub enum PathExpected {
     Comparison,
     /// A query: the argument of `count` or `value`.
     Query,
-    /// A query of at most one node, of names and indexes alone: in filters others are not
-    /// supported.
+    /// A query of at most one node, of names and indexes alone, where its value is compared or is
+    /// the argument of `length`.
     SingularQuery,
+    /// A selector that is no filter: the queries of a filter hold none here.
+    WithoutFilter,
+    /// Fewer segments in a filter's query: at most 100 of more than a name or an index.
+    FewerSegments,
     /// A test without `match` or `search`: regular expressions are not supported.
     WithoutPattern,
     /// A number, as JSON spells it.
@@ -90,6 +100,8 @@ impl fmt::Display for PathExpected {
             PathExpected::Comparison => "a comparison operator",
             PathExpected::Query => "a query",
             PathExpected::SingularQuery => "a query of at most one node",
+            PathExpected::WithoutFilter => "a selector that is no filter",
+            PathExpected::FewerSegments => "at most 100 segments",
             PathExpected::WithoutPattern => "a test without match or search",
             PathExpected::Number => "a number",
             PathExpected::Parenthesis => ")",
@@ -122,16 +134,22 @@ impl fmt::Display for PathError {
 impl std::error::Error for PathError {}
 
 /// The parts of a query: the steps with which it begins, and its segments.
-pub type QueryParts<'path> = (&'path [Step<'path>], &'path [Segment<'path>]);
+pub type QueryParts<'path> = (
+    &'path [Step<'path>],
+    &'path [Segment<'path, Selector<'path>>],
+);
 
 // Parentheses may be nested so deep.
 const MAX_NESTING: usize = 100;
 
+// A filter's query may have so many segments: what evaluates it recurses over them.
+const MAX_SEGMENTS: usize = 100;
+
 /// The query of a text, in an arena.
 ///
 /// Returns where the text is no query, and what it lacks there, or `Memory` where an allocation
-/// fails. In filters only queries of at most one node are read, and no `match` and `search`; blanks
-/// may stand inside brackets in a compared query too.
+/// fails. Queries in filters hold no filter and at most 100 segments of more than a name or an
+/// index; `match` and `search` are not read. A compared query may have blanks in brackets too.
 pub fn read<'path, A: Allocator>(
     arena: &'path Bump<A>,
     text: &str,
@@ -139,7 +157,7 @@ pub fn read<'path, A: Allocator>(
     ensures query { IfOk result (λ r. Query r.0.now r.1.now text.now) }
     ensures index { IfErr result (λ e. e.index ≤ length text.now) }
 {
-    match segments::query(arena, text) {
+    match whole::query(arena, text) {
         Ok(parts) => Ok(parts),
         Err(stop) => Err(stop.in_text(text)),
     }
@@ -156,7 +174,7 @@ pub fn read_filter<'path, A: Allocator>(
     ensures test { IfOk result (λ test. FilterText test.now text.now) }
     ensures index { IfErr result (λ e. e.index ≤ length text.now) }
 {
-    match filters::whole(arena, text) {
+    match whole::test(arena, text) {
         Ok(test) => Ok(test),
         Err(stop) => Err(stop.in_text(text)),
     }

@@ -4,7 +4,7 @@ use bumpalo::Bump;
 use jpick::{Layout, Query, Wanted, run};
 use jsonl::{Channel, Failure};
 use linked_list_allocator::LocalHeap;
-use simd_json_path::{Filter, Path, PathError, Segment, Selector};
+use simd_json_path::{Choice, Filter, Path, PathError, Segment, Selector};
 use std::alloc::Global;
 use std::io::ErrorKind;
 
@@ -296,8 +296,11 @@ fn query<'a>(arena: &'a Bump, text: &'a str) -> Result<Query<'a>, PathError> {
 // A path of segments by hand, which `Path::new` would read as steps, is singular too.
 #[test]
 fn paths_of_names_are_singular(rt: HostRuntime) {
-    let names = [Selector::Name("k")];
-    let selectors = [Selector::Name("k"), Selector::Index(0)];
+    let names = [Selector::Choice(Choice::Name("k"))];
+    let selectors = [
+        Selector::Choice(Choice::Name("k")),
+        Selector::Choice(Choice::Index(0)),
+    ];
     let rows: [(&[Selector<'_>], bool, &[u8]); 3] = [
         (names.as_slice(), false, b"1\n\n"),
         (selectors.as_slice(), false, b"1\n2\n"),

@@ -1,10 +1,8 @@
 // Comparisons: RFC 9535, sections 2.3.5.2.2, 2.3.5.3 and 2.4, and values worked by hand.
-use crate::tests::{Tested, assert_selects, child};
+use crate::tests::{Tested, assert_selects, child, name, singular};
 use bumpalo::Bump;
 use simd_json::to_tape;
-use simd_json_path::{
-    Comparable, Comparison, Filter, Literal, Selector, SingularQuery, Step, Test,
-};
+use simd_json_path::{Comparable, Comparison, Filter, Literal, Selector, SingularQuery, Step, Test};
 use std::process::Abort;
 
 const FILTERED: &str =
@@ -84,8 +82,8 @@ fn the_table(rt: HostRuntime) -> Tested {
 // The filters of the second table of section 2.3.5.3, those with comparisons.
 #[test]
 fn filters(rt: HostRuntime) -> Tested {
-    let a = [Selector::Name("a")];
-    let o = [Selector::Name("o")];
+    let a = [name("a")];
+    let o = [name("o")];
     let itself = Comparable::Query(SingularQuery::Relative(&[]));
     let b = Comparable::Query(SingularQuery::Relative(&[Step::Name("b")]));
     let x = Comparable::Query(SingularQuery::Absolute(&[Step::Name("x")]));
@@ -320,7 +318,7 @@ fn functions(rt: HostRuntime) -> Tested {
         nothing,
         true,
     );
-    let count = Comparable::Count(a);
+    let count = Comparable::Count(singular(a));
     assert_compares(
         &rt,
         "{\"a\":null}",
@@ -337,7 +335,7 @@ fn functions(rt: HostRuntime) -> Tested {
         number("0"),
         true,
     );
-    let value = Comparable::Value(a);
+    let value = Comparable::Value(singular(a));
     assert_compares(
         &rt,
         "{\"a\":7}",
@@ -353,7 +351,7 @@ fn functions(rt: HostRuntime) -> Tested {
 #[test]
 fn many_operands_take_no_stack(rt: HostRuntime) -> Tested {
     let arena = Bump::new(rt.alloc());
-    let itself = Test::Exists(SingularQuery::Relative(&[]));
+    let itself = Test::Exists(singular(SingularQuery::Relative(&[])));
     let nothing = Test::Not(&itself);
     let mut all = &itself;
     let mut one = &itself;

@@ -26,12 +26,12 @@ mod page {
 
 mod reading {
     use simd_json::tape::Value;
-    use simd_json_path::{Frame, Path, Segment, Selector, TooFewFrames};
+    use simd_json_path::{Choice, Frame, Path, Segment, Selector, TooFewFrames};
 
     // How many values `$..price` selects, at most 30 levels down.
     pub(super) fn prices(value: &Value<'_, '_>) -> Result<usize, TooFewFrames> {
         let price = Segment {
-            selectors: &[Selector::Name("price")],
+            selectors: &[Selector::Choice(Choice::Name("price"))],
             is_descendant: true,
             steps: &[],
         };

@@ -1,5 +1,5 @@
 // Filters by existence: RFC 9535, sections 2.3.5.3 and 2.6.
-use crate::tests::{Tested, assert_selects, child, descendant};
+use crate::tests::{Tested, assert_selects, child, descendant, name, singular};
 use simd_json_path::{Selector, SingularQuery, Step, Test};
 
 const FILTERED: &str =
@@ -8,9 +8,9 @@ const FILTERED: &str =
 
 #[test]
 fn existence(rt: HostRuntime) -> Tested {
-    let a = [Selector::Name("a")];
+    let a = [name("a")];
     let b = [Step::Name("b")];
-    let has_b = Test::Exists(SingularQuery::Relative(&b));
+    let has_b = Test::Exists(singular(SingularQuery::Relative(&b)));
     let filter = [Selector::Filter(&has_b)];
     let wanted = [
         "{\"b\":\"j\"}",
@@ -20,7 +20,7 @@ fn existence(rt: HostRuntime) -> Tested {
     ];
     assert_selects(&rt, FILTERED, &[child(&a), child(&filter)], &wanted);
     assert_selects(&rt, FILTERED, &[descendant(&filter)], &wanted);
-    let itself = Test::Exists(SingularQuery::Relative(&[]));
+    let itself = Test::Exists(singular(SingularQuery::Relative(&[])));
     let each = [Selector::Filter(&itself)];
     assert_selects(
         &rt,
@@ -34,8 +34,8 @@ fn existence(rt: HostRuntime) -> Tested {
 
 #[test]
 fn logic(rt: HostRuntime) -> Tested {
-    let a = Test::Exists(SingularQuery::Relative(&[Step::Name("a")]));
-    let b = Test::Exists(SingularQuery::Relative(&[Step::Name("b")]));
+    let a = Test::Exists(singular(SingularQuery::Relative(&[Step::Name("a")])));
+    let b = Test::Exists(singular(SingularQuery::Relative(&[Step::Name("b")])));
     let no_a = Test::Not(&a);
     let both = Test::And(&a, &b);
     let either = Test::Or(&a, &b);
@@ -56,8 +56,8 @@ fn logic(rt: HostRuntime) -> Tested {
 
 #[test]
 fn the_root_is_what_the_query_is_applied_to(rt: HostRuntime) -> Tested {
-    let list = [Selector::Name("list")];
-    let is_open = Test::Exists(SingularQuery::Absolute(&[Step::Name("open")]));
+    let list = [name("list")];
+    let is_open = Test::Exists(singular(SingularQuery::Absolute(&[Step::Name("open")])));
     let filter = [Selector::Filter(&is_open)];
     let segments = [child(&list), child(&filter)];
     assert_selects(

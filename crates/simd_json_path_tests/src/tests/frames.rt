@@ -1,10 +1,10 @@
 // How many frames suffice, and what comes with fewer.
-use crate::tests::{Tested, child, descendant, items};
-use simd_json_path::{Path, Selector, TooFewFrames};
+use crate::tests::{ALL, Tested, child, descendant, items};
+use simd_json_path::{Path, TooFewFrames};
 
 #[test]
 fn so_many_suffice(rt: HostRuntime) -> Tested {
-    let all = [Selector::Wildcard];
+    let all = [ALL];
     let children = Path {
         steps: &[],
         segments: &[child(&all), child(&all)],
@@ -21,7 +21,7 @@ fn so_many_suffice(rt: HostRuntime) -> Tested {
 
 #[test]
 fn with_fewer_each_place_is_an_error(rt: HostRuntime) -> Tested {
-    let all = [Selector::Wildcard];
+    let all = [ALL];
     let two = [child(&all), child(&all)];
     assert_eq!(rt; items(&rt, "[[1,2],3,{\"a\":4}]", &two, 2).as_str(), "vvv");
     assert_eq!(rt; items(&rt, "[[1,2],3,{\"a\":4}]", &two, 1).as_str(), "--");

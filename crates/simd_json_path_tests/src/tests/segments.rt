@@ -1,6 +1,6 @@
 // The examples of RFC 9535, sections 1.5, 2.5.1, 2.5.2 and 2.6.
-use crate::tests::{Tested, assert_selects, child, descendant};
-use simd_json_path::{Selector, Slice};
+use crate::tests::{ALL, Tested, assert_selects, child, descendant, index, name};
+use simd_json_path::{Choice, Selector, Slice};
 
 const DEEP: &str = "{\"o\":{\"j\":1,\"k\":2},\"a\":[5,3,[{\"j\":4},{\"k\":6}]]}";
 
@@ -16,16 +16,16 @@ const STORE: &str = "{\"store\":{\"book\":[\
 #[test]
 fn children(rt: HostRuntime) -> Tested {
     let letters = "[\"a\",\"b\",\"c\",\"d\",\"e\",\"f\",\"g\"]";
-    let two = [Selector::Index(0), Selector::Index(3)];
+    let two = [index(0), index(3)];
     assert_selects(&rt, letters, &[child(&two)], &["\"a\"", "\"d\""]);
-    let front = Selector::Slice(Slice {
+    let front = Selector::Choice(Choice::Slice(Slice {
         start: Some(0),
         end: Some(2),
         step: 1,
-    });
-    let union = [front, Selector::Index(5)];
+    }));
+    let union = [front, index(5)];
     assert_selects(&rt, letters, &[child(&union)], &["\"a\"", "\"b\"", "\"f\""]);
-    let twice = [Selector::Index(0), Selector::Index(0)];
+    let twice = [index(0), index(0)];
     assert_selects(&rt, letters, &[child(&twice)], &["\"a\"", "\"a\""]);
     assert_selects(&rt, letters, &[child(&[])], &[]);
     Ok(())
@@ -33,13 +33,13 @@ fn children(rt: HostRuntime) -> Tested {
 
 #[test]
 fn descendants(rt: HostRuntime) -> Tested {
-    let j = [Selector::Name("j")];
-    let o = [Selector::Name("o")];
-    let a = [Selector::Name("a")];
-    let all = [Selector::Wildcard];
-    let twice = [Selector::Wildcard, Selector::Wildcard];
-    let first = [Selector::Index(0)];
-    let two = [Selector::Index(0), Selector::Index(1)];
+    let j = [name("j")];
+    let o = [name("o")];
+    let a = [name("a")];
+    let all = [ALL];
+    let twice = [ALL, ALL];
+    let first = [index(0)];
+    let two = [index(0), index(1)];
     assert_selects(&rt, DEEP, &[descendant(&j)], &["1", "4"]);
     assert_selects(&rt, DEEP, &[descendant(&first)], &["5", "{\"j\":4}"]);
     assert_selects(
@@ -78,7 +78,7 @@ fn descendants(rt: HostRuntime) -> Tested {
 
 #[test]
 fn descendants_of_descendants_come_more_than_once(rt: HostRuntime) -> Tested {
-    let all = [Selector::Wildcard];
+    let all = [ALL];
     let segments = [descendant(&all), descendant(&all)];
     assert_selects(&rt, "[[[1]]]", &segments, &["[1]", "1", "1"]);
     Ok(())
@@ -86,11 +86,11 @@ fn descendants_of_descendants_come_more_than_once(rt: HostRuntime) -> Tested {
 
 #[test]
 fn null_is_a_value(rt: HostRuntime) -> Tested {
-    let a = [Selector::Name("a")];
-    let b = [Selector::Name("b")];
-    let null = [Selector::Name("null")];
-    let first = [Selector::Index(0)];
-    let all = [Selector::Wildcard];
+    let a = [name("a")];
+    let b = [name("b")];
+    let null = [name("null")];
+    let first = [index(0)];
+    let all = [ALL];
     assert_selects(&rt, NULLS, &[child(&a)], &["null"]);
     assert_selects(&rt, NULLS, &[child(&a), child(&first)], &[]);
     assert_selects(&rt, NULLS, &[child(&a), child(&b)], &[]);
@@ -102,14 +102,14 @@ fn null_is_a_value(rt: HostRuntime) -> Tested {
 
 #[test]
 fn the_store(rt: HostRuntime) -> Tested {
-    let store = [Selector::Name("store")];
-    let book = [Selector::Name("book")];
-    let author = [Selector::Name("author")];
-    let price = [Selector::Name("price")];
-    let publisher = [Selector::Name("publisher")];
-    let all = [Selector::Wildcard];
-    let third = [Selector::Index(2)];
-    let last = [Selector::Index(-1)];
+    let store = [name("store")];
+    let book = [name("book")];
+    let author = [name("author")];
+    let price = [name("price")];
+    let publisher = [name("publisher")];
+    let all = [ALL];
+    let third = [index(2)];
+    let last = [index(-1)];
     let authors = [
         "\"Nigel Rees\"",
         "\"Evelyn Waugh\"",
@@ -133,11 +133,11 @@ fn the_store(rt: HostRuntime) -> Tested {
 #[test]
 fn of_equal_names_a_name_selects_the_first_and_a_wildcard_all(rt: HostRuntime) -> Tested {
     let document = "{\"a\":1,\"b\":2,\"a\":3}";
-    assert_selects(&rt, document, &[child(&[Selector::Name("a")])], &["1"]);
+    assert_selects(&rt, document, &[child(&[name("a")])], &["1"]);
     assert_selects(
         &rt,
         document,
-        &[child(&[Selector::Wildcard])],
+        &[child(&[ALL])],
         &["1", "2", "3"],
     );
     Ok(())

@@ -1,6 +1,6 @@
 // The examples of RFC 9535, sections 2.3.1 to 2.3.4.
-use crate::tests::{Tested, assert_path_selects, assert_selects, child};
-use simd_json_path::{Path, Selector, Slice, Step};
+use crate::tests::{ALL, Tested, assert_path_selects, assert_selects, child, index, name};
+use simd_json_path::{Choice, Path, Selector, Slice, Step};
 
 const NAMES: &str = "{\"o\":{\"j j\":{\"k.k\":3}},\"'\":{\"@\":2}}";
 
@@ -9,16 +9,16 @@ const WILD: &str = "{\"o\":{\"j\":1,\"k\":2},\"a\":[5,3]}";
 const LETTERS: &str = "[\"a\",\"b\",\"c\",\"d\",\"e\",\"f\",\"g\"]";
 
 fn slice(start: Option<i64>, end: Option<i64>, step: i64) -> Selector<'static> {
-    Selector::Slice(Slice { start, end, step })
+    Selector::Choice(Choice::Slice(Slice { start, end, step }))
 }
 
 #[test]
 fn names(rt: HostRuntime) -> Tested {
-    let o = [Selector::Name("o")];
-    let j = [Selector::Name("j j")];
-    let k = [Selector::Name("k.k")];
-    let quote = [Selector::Name("'")];
-    let at = [Selector::Name("@")];
+    let o = [name("o")];
+    let j = [name("j j")];
+    let k = [name("k.k")];
+    let quote = [name("'")];
+    let at = [name("@")];
     assert_selects(&rt, NAMES, &[child(&o), child(&j)], &["{\"k.k\":3}"]);
     assert_selects(&rt, NAMES, &[child(&o), child(&j), child(&k)], &["3"]);
     assert_selects(&rt, NAMES, &[child(&quote), child(&at)], &["2"]);
@@ -28,10 +28,10 @@ fn names(rt: HostRuntime) -> Tested {
 
 #[test]
 fn wildcards(rt: HostRuntime) -> Tested {
-    let o = [Selector::Name("o")];
-    let a = [Selector::Name("a")];
-    let all = [Selector::Wildcard];
-    let twice = [Selector::Wildcard, Selector::Wildcard];
+    let o = [name("o")];
+    let a = [name("a")];
+    let all = [ALL];
+    let twice = [ALL, ALL];
     assert_selects(&rt, WILD, &[child(&all)], &["{\"j\":1,\"k\":2}", "[5,3]"]);
     assert_selects(&rt, WILD, &[child(&o), child(&all)], &["1", "2"]);
     assert_selects(
@@ -50,24 +50,24 @@ fn indexes(rt: HostRuntime) -> Tested {
     assert_selects(
         &rt,
         "[\"a\",\"b\"]",
-        &[child(&[Selector::Index(1)])],
+        &[child(&[index(1)])],
         &["\"b\""],
     );
     assert_selects(
         &rt,
         "[\"a\",\"b\"]",
-        &[child(&[Selector::Index(-2)])],
+        &[child(&[index(-2)])],
         &["\"a\""],
     );
-    assert_selects(&rt, "[\"a\",\"b\"]", &[child(&[Selector::Index(2)])], &[]);
-    assert_selects(&rt, "[\"a\",\"b\"]", &[child(&[Selector::Index(-3)])], &[]);
+    assert_selects(&rt, "[\"a\",\"b\"]", &[child(&[index(2)])], &[]);
+    assert_selects(&rt, "[\"a\",\"b\"]", &[child(&[index(-3)])], &[]);
     assert_selects(
         &rt,
         "[\"a\",\"b\"]",
-        &[child(&[Selector::Index(i64::MIN)])],
+        &[child(&[index(i64::MIN)])],
         &[],
     );
-    assert_selects(&rt, "{\"0\":1}", &[child(&[Selector::Index(0)])], &[]);
+    assert_selects(&rt, "{\"0\":1}", &[child(&[index(0)])], &[]);
     Ok(())
 }
 
@@ -105,7 +105,7 @@ fn slices(rt: HostRuntime) -> Tested {
 
 #[test]
 fn steps_are_segments_of_one_name_or_index(rt: HostRuntime) -> Tested {
-    let mut each = child(&[Selector::Wildcard]);
+    let mut each = child(&[ALL]);
     each.steps = &[Step::Name("a"), Step::Index(-1)];
     let path = Path {
         steps: &[Step::Index(1), Step::Name("x")],

@@ -102,7 +102,8 @@ fn missing(
 #[test]
 fn memory_that_is_missing_is_named(rt: HostRuntime) -> Tested {
     let test = "@.price < 10 && (@['a\\u0062'][0] || !(@.c == \"d\\n\") || 1 < length(@.e)) \
-        || count(@.f.g) == 1 && value($['h'].i[2]) != 'j' && @.k && @.l && @.m && @.n && @.o";
+        || count(@.f..['m', 1:2, *].g[*]) == 1 && value($['h'].i[2]) != 'j' \
+        && @.k && @.l && @.m && @.n && @.o";
     let query = format!(in rt.alloc(); "$.a['b', 1:2, *, \"\\u0063\"]..[?{test}].d[0].e..f")?;
     let filters = missing(&rt, |heap| {
         let arena = Bump::new(heap);

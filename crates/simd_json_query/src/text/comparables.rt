@@ -1,20 +1,20 @@
-//! What a filter compares, and the queries in it (RFC 9535, sections 2.3.5.1 and 2.4).
+//! What a filter compares (RFC 9535, sections 2.3.5.1 and 2.4).
 ghost use Rattle.std.specs.Prelude.{◌≤◌, length, IfOk, IfSome};
-ghost use Rattle.simd_json_query.specs.Filters.{ComparableText, SingularText};
+ghost use Rattle.simd_json_query.specs.Filters.{ComparableText, QueryText};
 ghost use Rattle.simd_json_query.specs.Filters.{right_parenthesis};
 ghost use Rattle.simd_json_query.specs.Spans.{◌then◌, Mark};
 ghost use Rattle.simd_json_query.specs.Steps.{Blanks};
 
-use crate::filter::{Comparable, SingularQuery};
+use crate::filter::{Comparable, Query};
 use crate::text::PathExpected;
-use crate::text::cursor::{Stop, after, next, skip_blanks, word};
+use crate::text::cursor::{Stop, after, skip_blanks, word};
 use crate::text::literals::literal;
-use crate::text::steps::steps;
+use crate::text::queries::{query, singular};
 use bumpalo::Bump;
 use std::alloc::Allocator;
 
-// What is compared, and what is after it; `expected` is what the text lacks where it is none. So
-// many calls may stand one in the other.
+// What is compared, and what is after it; `expected` is what the text lacks where it is none. Calls
+// may be nested so deep.
 pub(super) fn comparable<'path, 't, A: Allocator>(
     arena: &'path Bump<A>,
     rest: &'t str,
@@ -54,13 +54,13 @@ pub(super) fn comparable<'path, 't, A: Allocator>(
 fn argument<'path, 't, A: Allocator>(
     arena: &'path Bump<A>,
     rest: &'t str,
-) -> Result<(SingularQuery<'path>, &'t str), Stop>
-    ensures argument { IfOk result (λ r. (Blanks then SingularText r.0
+) -> Result<(Query<'path>, &'t str), Stop>
+    ensures argument { IfOk result (λ r. (Blanks then QueryText r.0
         then Blanks then Mark right_parenthesis) rest.now r.1.now) }
     ensures shorter { IfOk result (λ r. length r.1.now ≤ length rest.now) }
 {
     let begin = skip_blanks(rest);
-    match singular(arena, begin)? {
+    match query(arena, begin)? {
         Some((query, end)) => Ok((query, closed(end)?)),
         None => Err(Stop::at(begin, PathExpected::Query)),
     }
@@ -75,36 +75,6 @@ pub(super) fn closed(rest: &str) -> Result<&str, Stop>
     match after(end, ')') {
         Some(others) => Ok(others),
         None => Err(Stop::at(end, PathExpected::Parenthesis)),
-    }
-}
-
-// A query of one node, if one is there, and what is after it.
-pub(super) fn singular<'path, 't, A: Allocator>(
-    arena: &'path Bump<A>,
-    rest: &'t str,
-) -> Result<Option<(SingularQuery<'path>, &'t str)>, Stop>
-    ensures query { IfOk result (λ found. IfSome found (λ r. SingularText r.0 rest.now r.1.now)) }
-    ensures shorter { IfOk result (λ found. IfSome found (λ r. length r.1.now ≤ length rest.now)) }
-{
-    if let Some(others) = after(rest, '@') {
-        let (steps, end) = steps(arena, others)?;
-        ended(end)?;
-        return Ok(Some((SingularQuery::Relative(steps), end)));
-    }
-    if let Some(others) = after(rest, '$') {
-        let (steps, end) = steps(arena, others)?;
-        ended(end)?;
-        return Ok(Some((SingularQuery::Absolute(steps), end)));
-    }
-    Ok(None)
-}
-
-// No segment may be after a query of one node.
-fn ended(rest: &str) -> Result<(), Stop> {
-    let end = skip_blanks(rest);
-    match next(end) {
-        Some(('.' | '[', _)) => Err(Stop::at(end, PathExpected::SingularQuery)),
-        _ => Ok(()),
     }
 }
 

@@ -1,31 +1,17 @@
 //! The tests of filters: logical expressions (RFC 9535, section 2.3.5.1).
-ghost use Rattle.std.specs.Prelude.{◌≤◌, List, ℕ, length, IfOk, IfSome, codes};
+ghost use Rattle.std.specs.Prelude.{◌≤◌, List, ℕ, length, IfOk, codes};
 ghost use Rattle.simd_json_query.specs.Filters.{Basic, Conjunction, Denied, Logical, Nested};
-ghost use Rattle.simd_json_query.specs.Filters.{Operands, OperatorText, left_parenthesis};
-ghost use Rattle.simd_json_query.specs.Queries.{FilterText};
+ghost use Rattle.simd_json_query.specs.Filters.{Operands, left_parenthesis};
 ghost use Rattle.simd_json_query.specs.Spans.{Mark};
 
-use crate::filter::{Comparable, Comparison, Test};
-use crate::text::comparables::{closed, comparable, singular, without_pattern};
+use crate::filter::Test;
+use crate::text::PathExpected;
+use crate::text::comparables::{closed, without_pattern};
+use crate::text::comparisons::compared;
 use crate::text::cursor::{Stop, after, skip_blanks, word};
-use crate::text::{MAX_NESTING, PathExpected};
+use crate::text::queries::query;
 use bumpalo::Bump;
 use std::alloc::Allocator;
-
-// The test of a whole text.
-pub(super) fn whole<'path, A: Allocator>(
-    arena: &'path Bump<A>,
-    text: &str,
-) -> Result<&'path Test<'path>, Stop>
-    ensures { IfOk result (λ test. FilterText test.now text.now) }
-{
-    let (test, others) = logical(arena, skip_blanks(text), MAX_NESTING)?;
-    let end = skip_blanks(others);
-    if !end.is_empty() {
-        return Err(Stop::at(end, PathExpected::End));
-    }
-    Ok(arena.try_alloc(test)?)
-}
 
 // A logical expression, with parentheses at most so deep, and what is after it.
 #[cycle(tests)]
@@ -137,7 +123,7 @@ fn denied<'path, 't, A: Allocator>(
     if let Some(others) = after(rest, '(') {
         return nested(arena, rest, others, nesting);
     }
-    match singular(arena, rest)? {
+    match query(arena, rest)? {
         Some((query, others)) => Ok((Test::Exists(query), others)),
         None => Err(Stop::at(rest, without_pattern(rest, PathExpected::Denied))),
     }
@@ -160,50 +146,4 @@ fn nested<'path, 't, A: Allocator>(
     }
     let (test, behind) = logical(arena, skip_blanks(others), nesting - 1)?;
     Ok((test, closed(behind)?))
-}
-
-// A comparison, or a query.
-fn compared<'path, 't, A: Allocator>(
-    arena: &'path Bump<A>,
-    rest: &'t str,
-    nesting: usize,
-) -> Result<(Test<'path>, &'t str), Stop>
-    ensures test { IfOk result (λ r. Basic (Nested nesting) r.0 rest.now r.1.now) }
-    ensures shorter { IfOk result (λ r. length r.1.now ≤ length rest.now) }
-{
-    let (left, others) = comparable(arena, rest, PathExpected::Test, nesting)?;
-    let end = skip_blanks(others);
-    if let Some((comparison, behind)) = operator(end) {
-        let begin = skip_blanks(behind);
-        let (right, behind) = comparable(arena, begin, PathExpected::Comparable, nesting)?;
-        return Ok((Test::Compare(left, comparison, right), behind));
-    }
-    match left {
-        Comparable::Query(query) => Ok((Test::Exists(query), others)),
-        _ => Err(Stop::at(end, PathExpected::Comparison)),
-    }
-}
-
-// The operator of a comparison, and what is after it.
-fn operator(rest: &str) -> Option<(Comparison, &str)>
-    ensures operator { IfSome result (λ r. OperatorText r.0 rest.now r.1.now) }
-    ensures shorter { IfSome result (λ r. length r.1.now ≤ length rest.now) }
-{
-    if let Some(others) = word(rest, "==") {
-        return Some((Comparison::Equal, others));
-    }
-    if let Some(others) = word(rest, "!=") {
-        return Some((Comparison::NotEqual, others));
-    }
-    if let Some(others) = word(rest, "<=") {
-        return Some((Comparison::LessOrEqual, others));
-    }
-    if let Some(others) = word(rest, ">=") {
-        return Some((Comparison::GreaterOrEqual, others));
-    }
-    if let Some(others) = word(rest, "<") {
-        return Some((Comparison::Less, others));
-    }
-    let others = word(rest, ">")?;
-    Some((Comparison::Greater, others))
 }

@@ -1,6 +1,6 @@
 use Rattle.std.proofs.Common.{◌≡◌, drop}
 use Rattle.simd_json.specs.Viewed.{doc}
-use Rattle.simd_json_path.specs.Filters.{at_steps}
+use Rattle.simd_json_path.specs.Nodes.{at_steps}
 use Rattle.simd_json_path.proofs.filter.follow_others.Given as goal
 
 abbrev pub invariant-loop-step : goal.invariant-loop-step

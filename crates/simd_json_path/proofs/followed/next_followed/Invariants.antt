@@ -1,7 +1,7 @@
 use Rattle.std.proofs.Common.{◌≡◌, length}
 use Rattle.simd_json.specs.Viewed.{doc}
 use Rattle.simd_json_path.specs.Frames.{opened_left}
-use Rattle.simd_json_path.specs.Paths.{followed}
+use Rattle.simd_json_path.specs.Nodes.{followed}
 use Rattle.simd_json_path.proofs.followed.next_followed.Given as goal
 
 abbrev pub invariant-opened : goal.invariant-opened

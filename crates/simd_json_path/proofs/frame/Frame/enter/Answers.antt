@@ -11,7 +11,7 @@ returns-then-self-clause-effort c root room =
       | then-first w ↦
           effort-below root room c.args.segments.now _ (doc c.args.value) c.if-first.self _ _ _ _ c.requires c.if-self.true w.if-first.true
           (sym (c.new-opened.ensures.left root) ∙ w.is_done-self.ensures (sym w.self-is ∙ c.if-self.true) root)
-          c.all-self.ensures.children
+          c.of-self.ensures
       | else-first w ↦ (cc)
     ]
 

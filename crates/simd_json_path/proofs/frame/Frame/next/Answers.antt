@@ -20,8 +20,8 @@ returns-clause-left c room =
     let new = c.next_below-2.new.self in
     let same =
     turned-left root room old.segments.now old.steps.now old.is_below old.is_descendant (opened_left root old.opened) _
-    (children_left c.all-self.result.children) (doc old.opened.value) _ c.if-self.false c.if-not-self.false c.in_default.ensures.next.0
-    (ap doc c.in_default.ensures.value) c.all-self.ensures.children in
+    (children_left c.of-self.result) (doc old.opened.value) _ c.if-self.false c.if-not-self.false c.in_default.ensures.next.0
+    (ap doc c.in_default.ensures.value) c.of-self.ensures in
     subst
     (λ xs. MatchOption c.next_below-2.result (xs ≡ []) (λ r. xs ≡ selected_in root room r.0.now (doc r.1) ++ frame_left root room new))
     (sym same) (c.next_below-2.ensures.left root room)
@@ -33,17 +33,17 @@ returns-clause-effort c room =
     let new = c.next_below-2.new.self in
     let left =
     turned-left root room old.segments.now old.steps.now old.is_below old.is_descendant (opened_left root old.opened) _
-    (children_left c.all-self.result.children) (doc old.opened.value) _ c.if-self.false c.if-not-self.false c.in_default.ensures.next.0
-    (ap doc c.in_default.ensures.value) c.all-self.ensures.children in
+    (children_left c.of-self.result) (doc old.opened.value) _ c.if-self.false c.if-not-self.false c.in_default.ensures.next.0
+    (ap doc c.in_default.ensures.value) c.of-self.ensures in
     let effort-same =
     turned-effort root room old.segments.now old.steps.now old.is_below old.is_descendant (opened_left root old.opened) _
-    (children_left c.all-self.result.children) (doc old.opened.value) _ c.if-self.false c.if-not-self.false c.in_default.ensures.next.0
-    (ap doc c.in_default.ensures.value) c.all-self.ensures.children in
+    (children_left c.of-self.result) (doc old.opened.value) _ c.if-self.false c.if-not-self.false c.in_default.ensures.next.0
+    (ap doc c.in_default.ensures.value) c.of-self.ensures in
     subst
     (λ n. MatchOption c.next_below-2.result (frame_left root room old ≡ []) (λ r. n ≡ effort root room r.0.now (doc r.1) + frame_effort root room new))
     (sym effort-same)
     (subst
     (λ xs. MatchOption c.next_below-2.result (xs ≡ [])
-    (λ r. 0 + sum_by (effort root room old.segments.now) (children_left c.all-self.result.children)
+    (λ r. 0 + sum_by (effort root room old.segments.now) (children_left c.of-self.result)
     ≡ effort root room r.0.now (doc r.1) + frame_effort root room new))
     (sym left) (c.next_below-2.ensures.effort root room))

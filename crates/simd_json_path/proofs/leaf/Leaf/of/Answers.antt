@@ -1,7 +1,7 @@
 use Rattle.std.proofs.Common.{◌∙◌, ap, sym, Some}
 use Rattle.std.specs.Prelude.{map}
 use Rattle.simd_json.specs.Viewed.{doc}
-use Rattle.simd_json_path.specs.Paths.{followed}
+use Rattle.simd_json_path.specs.Nodes.{followed}
 use Rattle.simd_json_path.specs.Sliced.{children_left}
 use Rattle.simd_json_path.proofs.Visits.{wildcard-left}
 use Rattle.simd_json_path.proofs.leaf.Leaf.of.Goals as goal

@@ -1,4 +1,4 @@
-use Rattle.std.proofs.Common.{◌≡◌, ◌∙◌, ◌≤◌, ◌++◌, ap, sym, ℕ, List, length, length-append, encode_utf8, arith, rules}
+use Rattle.std.proofs.Common.{◌∙◌, sym, arith, rules}
 use Rattle.simd_json_query.proofs.Runs.{blanks-more}
 use Rattle.simd_json_query.proofs.text.cursor.skip_blanks.Goals as goal
 

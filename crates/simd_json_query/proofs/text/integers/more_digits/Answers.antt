@@ -1,4 +1,4 @@
-use Rattle.std.proofs.Common.{◌≡◌, ◌≢◌, ap, sym, ◌<◌, ◌≤◌, ◌++◌, ℕ, List, length, length-append, encode_utf8, arith, rules}
+use Rattle.std.proofs.Common.{◌≡◌, ◌≢◌, ap, ◌<◌, ℕ, arith, rules}
 use Rattle.std.specs.Char.{digit_value}
 use Rattle.simd_json_query.proofs.Numbers.{read-more, read-natural}
 use Rattle.simd_json_query.proofs.text.integers.more_digits.Goals as goal
