@@ -161,7 +161,7 @@ module _ (root : Document) (room n : ℕ) (old new : List Frame) (size : length 
         ∙ sym step
         ∙ sym (same-place (frames_left root) (length old) (n - 1 + suc room) n (n - 1 + 1) old size last)
 
-    pub passed-effort : (ss : List Segment) (d : Document)
+    pub passed-effort : (ss : List (Segment Selector)) (d : Document)
         → frames_effort root (n - 1 + suc room) (take (n - 1 + 1) old)
         ≡ effort root room ss d + frames_effort root (n - 1 + suc room) (take (n - 1 + 1) new)
         → frames_effort root (length new) (take n new) < frames_effort root (length old) (take n old)
