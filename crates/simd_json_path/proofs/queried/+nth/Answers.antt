@@ -1,7 +1,6 @@
-use Rattle.std.proofs.Common.{◌≡◌, ◌∙◌, ap, sym, ◌≤◌, ◌<◌, ◌+◌, ◌*◌, [], ◌∷◌, ◌++◌, length, drop, arith}
-use Rattle.std.specs.declared.ops.ControlFlow.TheVariants.{Break, Continue}
+use Rattle.std.proofs.Common.{◌∙◌, ap, sym, ◌+◌, [], ◌∷◌, ◌++◌, drop, arith}
+use Rattle.std.specs.declared.ops.ControlFlow.TheVariants.{Continue}
 use Rattle.simd_json.specs.Viewed.{doc}
-use Rattle.simd_json_parts.specs.Limits.{depth}
 use Rattle.simd_json_path.specs.Nodes.{by_all, chosen_by, followed, nodes}
 use Rattle.simd_json_path.specs.Room.{entered}
 use Rattle.simd_json_path.specs.Sliced.{children_left}
@@ -17,8 +16,8 @@ use Rattle.simd_json_path.proofs.queried.+nth.Goals.{nth_from-else-first, nth_fr
 pub nth_among-nth_from-requires : goal.nth_among-nth_from-requires
 nth_among-nth_from-requires t c =
     let less = reached-low c.args.steps.now (children_left c.loop-child.children) (doc c.in-Some.child) (children_left c.next.new.self)
-        (doc c.in-Some-follow.reached) (height (children_left c.args.children)) c.loop-child.invariant.low c.in-Some.ensures.steps
-        c.in-Some-follow.ensures in
+    (doc c.in-Some-follow.reached) (height (children_left c.args.children)) c.loop-child.invariant.low c.in-Some.ensures.steps
+    c.in-Some-follow.ensures in
     (omega (arith, less, c.decreases), tt)
 
 pub nth_among-returns-in_err-left : goal.nth_among-returns-in_err-left
@@ -116,7 +115,7 @@ nth_from-returns t c =
     let segments = c.args.segments.now in
     let left = c.loop-choice.left in
     let done = ap (λ xs. sought xs left) (sym (choices-end c.in-Some.others.now first.steps.now first.selectors.now
-        c.loop-choice.choice-index d (nodes chosen_by segments (entered first.is_descendant d)) (omega arith))) in
+    c.loop-choice.choice-index d (nodes chosen_by segments (entered first.is_descendant d)) (omega arith))) in
     elim c.if-first.branch [
       | nth_from-then-first+in_ok-left-2 w ↦
           ap (λ n. Continue n) w.left-is
