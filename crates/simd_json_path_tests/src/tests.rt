@@ -1,7 +1,5 @@
 use simd_json::to_tape;
-use simd_json_path::{
-    Choice, Frame, Path, Query, Segment, Selector, SingularQuery, TooFewFrames,
-};
+use simd_json_path::{Choice, Frame, Path, Query, Segment, Selector, SingularQuery, TooFewFrames};
 use std::process::Abort;
 use std::test::Fail;
 

@@ -2,7 +2,9 @@
 use crate::tests::{Tested, assert_selects, child, name, singular};
 use bumpalo::Bump;
 use simd_json::to_tape;
-use simd_json_path::{Comparable, Comparison, Filter, Literal, Selector, SingularQuery, Step, Test};
+use simd_json_path::{
+    Comparable, Comparison, Filter, Literal, Selector, SingularQuery, Step, Test,
+};
 use std::process::Abort;
 
 const FILTERED: &str =

@@ -11,6 +11,7 @@ use std::process::Abort;
 const DOCUMENT: &str = "{\"a\":[1,2,3],\"o\":{\"p\":{\"q\":[4,5]}}}";
 
 const A: [Step<'static>; 1] = [Step::Name("a")];
+
 const ALL: [Choice<'static>; 1] = [Choice::Wildcard];
 
 // The children that selectors choose.
@@ -144,7 +145,11 @@ fn counts(rt: HostRuntime) -> Tested {
     let last = Choice::Index(-1);
     assert_counts(&rt, relative(&A, &[of(&[first, last, first])]), "3");
     assert_counts(&rt, relative(&A, &[of(&[every(2)])]), "2");
-    assert_counts(&rt, relative(&A, &[of(&[every(-1), Choice::Index(3)])]), "3");
+    assert_counts(
+        &rt,
+        relative(&A, &[of(&[every(-1), Choice::Index(3)])]),
+        "3",
+    );
     // The children of the value, of `a`, `o`, `p` and `q`: 2, 3, 1, 1 and 2.
     assert_counts(&rt, relative(&[], &[below(&ALL)]), "9");
     assert_counts(&rt, relative(&[], &[below(&[first])]), "2");

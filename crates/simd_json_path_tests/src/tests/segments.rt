@@ -134,11 +134,6 @@ fn the_store(rt: HostRuntime) -> Tested {
 fn of_equal_names_a_name_selects_the_first_and_a_wildcard_all(rt: HostRuntime) -> Tested {
     let document = "{\"a\":1,\"b\":2,\"a\":3}";
     assert_selects(&rt, document, &[child(&[name("a")])], &["1"]);
-    assert_selects(
-        &rt,
-        document,
-        &[child(&[ALL])],
-        &["1", "2", "3"],
-    );
+    assert_selects(&rt, document, &[child(&[ALL])], &["1", "2", "3"]);
     Ok(())
 }

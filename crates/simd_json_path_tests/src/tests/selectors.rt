@@ -47,26 +47,11 @@ fn wildcards(rt: HostRuntime) -> Tested {
 
 #[test]
 fn indexes(rt: HostRuntime) -> Tested {
-    assert_selects(
-        &rt,
-        "[\"a\",\"b\"]",
-        &[child(&[index(1)])],
-        &["\"b\""],
-    );
-    assert_selects(
-        &rt,
-        "[\"a\",\"b\"]",
-        &[child(&[index(-2)])],
-        &["\"a\""],
-    );
+    assert_selects(&rt, "[\"a\",\"b\"]", &[child(&[index(1)])], &["\"b\""]);
+    assert_selects(&rt, "[\"a\",\"b\"]", &[child(&[index(-2)])], &["\"a\""]);
     assert_selects(&rt, "[\"a\",\"b\"]", &[child(&[index(2)])], &[]);
     assert_selects(&rt, "[\"a\",\"b\"]", &[child(&[index(-3)])], &[]);
-    assert_selects(
-        &rt,
-        "[\"a\",\"b\"]",
-        &[child(&[index(i64::MIN)])],
-        &[],
-    );
+    assert_selects(&rt, "[\"a\",\"b\"]", &[child(&[index(i64::MIN)])], &[]);
     assert_selects(&rt, "{\"0\":1}", &[child(&[index(0)])], &[]);
     Ok(())
 }
