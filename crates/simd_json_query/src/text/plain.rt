@@ -1,4 +1,7 @@
 //! The segments of a filter's query, which hold no filter (RFC 9535, section 2.5).
+//!
+//! They are read as in `segments` and `selectors`, over another type: a trait of both types, with a
+//! method that reads into the arena, gets no proof.
 ghost use Rattle.std.specs.Prelude.{◌≤◌, Bool, List, ℕ, length, IfOk};
 ghost use Rattle.simd_json_parts.specs.Bytes.{left_bracket};
 ghost use Rattle.simd_json_query.specs.Choices.{ChoiceText};
