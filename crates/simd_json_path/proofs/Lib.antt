@@ -4,6 +4,7 @@ pub mod Segments
 pub mod Heights
 pub mod Bare
 pub mod Rooms
+pub mod Leaves
 pub mod Slices
 pub mod Backs
 pub mod Equals

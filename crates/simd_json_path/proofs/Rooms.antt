@@ -23,7 +23,7 @@ use Rattle.simd_json_path.proofs.Segments.{from_node, from_node-step, nodes-each
 abbrev all : List Document → List (Option Document)
 all ds = map Some ds
 
-all-flat_map : (f : Document → List Document) (ds : List Document) → flat_map (λ d. all (f d)) ds ≡ all (flat_map f ds)
+pub all-flat_map : (f : Document → List Document) (ds : List Document) → flat_map (λ d. all (f d)) ds ≡ all (flat_map f ds)
 all-flat_map f [] = refl
 all-flat_map f (d ∷ ds) = ap (λ xs. all (f d) ++ xs) (all-flat_map f ds) ∙ sym (map-append Some (f d) (flat_map f ds))
 

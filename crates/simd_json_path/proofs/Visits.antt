@@ -1,21 +1,15 @@
 -- What is left to one frame: of what the selectors select, and then of the children.
-use Rattle.std.proofs.Common.{◌≡◌, ◌∙◌, ap, sym, refl, ◌<◌, ◌+◌, ℕ, suc, List, [], ◌∷◌, ◌++◌, length, drop, map, slice_index_or, arith}
-use Rattle.std.proofs.Common.{Some, Bool, true, false, cond}
-use Rattle.std.specs.Prelude.{◌==◌}
+use Rattle.std.proofs.Common.{◌≡◌, ◌∙◌, ap, sym, ◌<◌, ◌+◌, ℕ, suc, List, [], ◌∷◌, ◌++◌, length, drop, slice_index_or, arith}
+use Rattle.std.proofs.Common.{Bool, true, false, cond}
 use Rattle.std.specs.List.{flat_map, sum_by}
-use Rattle.std.proofs.lemmas.Bool.{eqb-true}
-use Rattle.std.proofs.lemmas.List.{append-nil}
 use Rattle.simd_json_parts.specs.Document.{Document}
 use Rattle.simd_json.specs.Beneath.{children}
-use Rattle.simd_json_path.specs.Leaves.{is_wildcard}
 use Rattle.simd_json_path.specs.Nodes.{followed}
 use Rattle.simd_json_path.specs.Paths.{selected_by_all}
 use Rattle.simd_json_path.specs.Room.{effort, entered, selected_in}
 use Rattle.simd_json_query.specs.declared.filter.Step.{Step}
 use Rattle.simd_json_query.specs.declared.query.Segment.{Segment}
-use Rattle.simd_json_query.specs.declared.query.Choice.TheVariants as choice
 use Rattle.simd_json_query.specs.declared.query.Selector.{Selector}
-use Rattle.simd_json_query.specs.declared.query.Selector.TheVariants as selector
 
 module _ (root : Document) (room : ℕ) where
   -- ---- segments at a value: the first one's selectors, then the children
@@ -85,31 +79,3 @@ module _ (root : Document) (room : ℕ) where
       let at = ap (λ y. sum_by (effort root room ss) (children y)) same in
       let there = ap (sum_by (effort root room ss)) all in
       omega (arith, here, at, there)
-
-  -- ---- a last segment whose only selector is a wildcard
-
-  singles : (ds : List Document) → flat_map (selected_in root room []) ds ≡ map Some ds
-  singles [] = refl
-  singles (d ∷ ds) = ap (λ xs. Some d ∷ xs) (singles ds)
-
-  all-children : (ss : List Selector) (d : Document) → is_wildcard ss ≡ true → selected_by_all root ss d ≡ children d
-  all-children [] d is = cc
-  all-children (selector.Choice choice.Wildcard ∷ []) d is = append-nil (children d)
-  all-children (selector.Choice choice.Wildcard ∷ (t ∷ ts)) d is = cc
-  all-children (selector.Choice (choice.Name name) ∷ ts) d is = cc
-  all-children (selector.Choice (choice.Index i) ∷ ts) d is = cc
-  all-children (selector.Choice (choice.Slice s) ∷ ts) d is = cc
-  all-children (selector.Filter test ∷ ts) d is = cc
-
-  pub wildcard-left : (ss : List (Segment Selector)) (s : Segment Selector) (others : List (Segment Selector)) (d : Document) (cs : List Document)
-      → ss ≡ s ∷ others → (length others == 0) ≡ true → s.is_descendant ≡ false → is_wildcard s.selectors.now ≡ true
-      → cs ≡ children d → selected_in root (suc room) ss d ≡ map Some (followed s.steps.now cs)
-  wildcard-left ss s (o ∷ os) d cs is last off only all =
-      let none : length (o ∷ os) ≡ 0 = eqb-true _ _ last in absurd (omega arith)
-  wildcard-left ss s [] d cs is last off only all =
-      let found = followed s.steps.now (selected_by_all root s.selectors.now d) in
-      ap (λ zs. selected_in root (suc room) zs d) is
-      ∙ ap (λ b. flat_map (selected_in root room []) found ++ flat_map (selected_in root room (s ∷ [])) (entered b d)) off
-      ∙ append-nil _
-      ∙ singles found
-      ∙ ap (λ zs. map Some (followed s.steps.now zs)) (all-children s.selectors.now d only ∙ sym all)

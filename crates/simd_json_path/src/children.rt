@@ -110,6 +110,9 @@ impl<'tape, 'input> Iterator for Children<'tape, 'input> {
         if let Children::Values(values) = self {
             return values.next();
         }
+        if matches!(self, Children::Nothing) {
+            return None;
+        }
         // Of a value that a call wrote, a copy is returned: else all values would lie in memory.
         Some(self.next_other()?)
     }

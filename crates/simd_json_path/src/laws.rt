@@ -1,4 +1,5 @@
-//! What holds of queries, frames and comparisons. Each function has an empty body: its contract is the law.
+//! What holds of queries, frames and comparisons. Each function has an empty body: its contract is
+//! the law.
 ghost use Rattle.std.specs.Prelude.{true, ◌≡◌, ◌≤◌, ℕ, Bool, Some, is_some, map, min};
 ghost use Rattle.std.specs.List.{list_all};
 ghost use Rattle.simd_json_parts.specs.Document.{Document};

@@ -1,7 +1,8 @@
-//! What a last segment selects of one value, where its only selector is a wildcard: without a frame.
+//! What a last segment selects of one value, where its only selector is a wildcard: without a
+//! frame.
 ghost use Rattle.std.specs.Prelude.{◌≡◌, option_map};
 ghost use Rattle.simd_json.specs.Viewed.{doc};
-ghost use Rattle.simd_json_path.specs.Leaves.{is_wildcard, way_steps};
+ghost use Rattle.simd_json_path.specs.Leaves.{is_leaf, is_wildcard, way_steps};
 ghost use Rattle.simd_json_path.specs.Nodes.{at_steps};
 
 use crate::children::Children;
@@ -26,11 +27,13 @@ pub(crate) struct Leaf<'path, 'tape, 'input> {
 }
 
 impl<'path, 'tape, 'input> Leaf<'path, 'tape, 'input> {
-    ghost use Rattle.std.specs.Prelude.{◌≡◌, [], ℕ, IfSome, Some, map, suc};
+    ghost use Rattle.std.specs.Prelude.{◌≡◌, [], ℕ, IfSome, Some, map, suc, true};
     ghost use Rattle.std.specs.Iterator.{YieldsFirstBy};
     ghost use Rattle.simd_json.specs.Viewed.{doc};
     ghost use Rattle.simd_json_parts.specs.Document.{Document};
-    ghost use Rattle.simd_json_path.specs.Leaves.{leaf_left};
+    ghost use Rattle.simd_json.specs.Beneath.{children};
+    ghost use Rattle.simd_json_path.specs.Leaves.{leaf_left, way_steps};
+    ghost use Rattle.simd_json_path.specs.Nodes.{followed};
     ghost use Rattle.simd_json_path.specs.Room.{selected_in};
 
     pub(crate) fn nothing() -> Self
@@ -42,6 +45,18 @@ impl<'path, 'tape, 'input> Leaf<'path, 'tape, 'input> {
         }
     }
 
+    // Where steps lead from all children of a value.
+    #[inline(always)]
+    pub(crate) fn all(way: Way<'path>, value: Value<'tape, 'input>) -> Self
+        ensures { leaf_left result
+            ≡ followed (way_steps way.entry) (children (doc value.entry)) }
+    {
+        Leaf {
+            children: Children::of(value),
+            way,
+        }
+    }
+
     // What segments select of a value, if they are one such segment.
     #[inline(always)]
     pub(crate) fn of(segments: &[Segment<'path>], value: Value<'tape, 'input>) -> Option<Self>
@@ -50,13 +65,18 @@ impl<'path, 'tape, 'input> Leaf<'path, 'tape, 'input> {
             ≡ map Some (leaf_left leaf)) }
     {
         let (segment, others) = segments.split_first()?;
-        if others.is_empty() && !segment.is_descendant && is_wildcard(segment.selectors) {
-            return Some(Leaf {
-                children: Children::of(value),
-                way: way_by(segment.steps),
-            });
+        if others.is_empty() && is_leaf(segment) {
+            return Some(Leaf::all(way_by(segment.steps), value));
         }
         None
+    }
+
+    // Whether none are left, as far as it is seen at once.
+    #[inline(always)]
+    pub(crate) fn is_done(&self) -> bool
+        ensures { result ≡ true → leaf_left self.now ≡ [] }
+    {
+        matches!(self.children, Children::Nothing)
     }
 
     #[inline(always)]
@@ -72,8 +92,16 @@ impl<'path, 'tape, 'input> Leaf<'path, 'tape, 'input> {
     }
 }
 
+// Whether a segment is a child segment whose only selector is a wildcard.
 #[inline(always)]
-fn way_by<'path>(steps: &'path [Step<'path>]) -> Way<'path>
+pub(crate) fn is_leaf(segment: &Segment<'_>) -> bool
+    ensures { result ≡ is_leaf segment.now }
+{
+    !segment.is_descendant && is_wildcard(segment.selectors)
+}
+
+#[inline(always)]
+pub(crate) fn way_by<'path>(steps: &'path [Step<'path>]) -> Way<'path>
     ensures { way_steps result ≡ steps.now }
 {
     let Some((first, others)) = steps.split_first() else {
@@ -94,19 +122,8 @@ fn reached<'tape, 'input>(way: Way<'_>, child: Value<'tape, 'input>) -> Option<V
     match way {
         Way::ToItself => Some(child),
         Way::ToName(name) => child.as_object()?.find(name),
-        Way::BySteps(steps) => Some(follow_steps(steps, child)?),
+        Way::BySteps(steps) => follow(steps, child),
     }
-}
-
-// `follow`, not inlined.
-#[inline(never)]
-fn follow_steps<'tape, 'input>(
-    steps: &[Step<'_>],
-    child: Value<'tape, 'input>,
-) -> Option<Value<'tape, 'input>>
-    ensures { option_map doc result ≡ at_steps steps.now (doc child.entry) }
-{
-    follow(steps, child)
 }
 
 // Whether the only selector is a wildcard.

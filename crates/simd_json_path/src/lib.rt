@@ -83,6 +83,7 @@ mod same;
 mod scalar;
 mod selected;
 mod slice;
+mod twig;
 
 pub use filter::Filter;
 pub use frame::Frame;

@@ -4,6 +4,7 @@ ghost use Rattle.std.specs.Prelude.{◌≡◌, ◌≤◌, length};
 use crate::frame::Frame;
 use crate::frames::{advance, is_container};
 use crate::leaf::Leaf;
+use crate::twig::Twig;
 use simd_json::tape::Value;
 use simd_json_query::Segment;
 use std::fmt;
@@ -35,18 +36,20 @@ pub struct Selected<'frames, 'path, 'tape, 'input> {
     // The first `opened` are open, each inside the one before it.
     frames: &'frames mut [Frame<'path, 'tape, 'input>],
     opened: usize,
-    // What comes before what is left of the frames.
+    // What comes before what is left of the frames: of one value, and of those after it.
     leaf: Leaf<'path, 'tape, 'input>,
+    twig: Twig<'path, 'tape, 'input>,
     // The only item, where no frame was opened.
     single: Option<Result<Value<'tape, 'input>, TooFewFrames>>,
     ghost within: { opened ≤ length frames.now },
 }
 
 impl<'frames, 'path, 'tape, 'input> Selected<'frames, 'path, 'tape, 'input> {
-    ghost use Rattle.std.specs.Prelude.{◌≡◌, [], length};
+    ghost use Rattle.std.specs.Prelude.{◌≡◌, ◌++◌, [], Some, length, map, option_map};
     ghost use Rattle.std.specs.Iterator.{YieldsFirstBy};
+    ghost use Rattle.std.specs.Option.{option_to_list};
     ghost use Rattle.simd_json.specs.Viewed.{doc};
-    ghost use Rattle.simd_json_path.specs.Leaves.{leaf_left};
+    ghost use Rattle.simd_json_path.specs.Leaves.{leaf_left, twig_left};
     ghost use Rattle.simd_json_path.specs.Left.{item_of, selected_left};
     ghost use Rattle.simd_json_path.specs.Room.{selected_in};
 
@@ -61,36 +64,24 @@ impl<'frames, 'path, 'tape, 'input> Selected<'frames, 'path, 'tape, 'input> {
             ≡ selected_in (doc root.entry) (length frames.entry.now) segments.now
             (doc start.entry) }
     {
-        let leaf: Leaf<'path, 'tape, 'input> = Leaf::nothing();
         if segments.is_empty() {
-            return Selected {
-                root,
-                frames,
-                opened: 0,
-                leaf,
-                single: Some(Ok(start)),
-            };
+            return Selected::only(Some(Ok(start)), root, frames);
         }
         if !is_container(start) {
-            return Selected::none(root, frames);
+            return Selected::only(None, root, frames);
         }
         if frames.is_empty() {
-            return Selected {
-                root,
-                frames,
-                opened: 0,
-                leaf,
-                single: Some(Err(TooFewFrames)),
-            };
+            return Selected::only(Some(Err(TooFewFrames)), root, frames);
         }
-        if let Some(leaf) = Leaf::of(segments, start) {
-            return Selected {
-                root,
-                frames,
-                opened: 0,
-                leaf,
-                single: None,
-            };
+        let leaf: Leaf<'path, 'tape, 'input> = Leaf::nothing();
+        let twig: Twig<'path, 'tape, 'input> = Twig::nothing();
+        if let Some(found) = Leaf::of(segments, start) {
+            return Selected::beneath(found, twig, root, frames);
+        }
+        if frames.len() > 1 {
+            if let Some(found) = Twig::of(segments, start) {
+                return Selected::beneath(leaf, found, root, frames);
+            }
         }
         frames[0] = Frame::new(segments, start);
         Selected {
@@ -98,21 +89,49 @@ impl<'frames, 'path, 'tape, 'input> Selected<'frames, 'path, 'tape, 'input> {
             frames,
             opened: 1,
             leaf,
+            twig,
             single: None,
         }
     }
 
-    // The next item, where none is left of the leaf.
-    #[inline(never)]
-    fn next_beneath(&mut self) -> Option<Result<Value<'tape, 'input>, TooFewFrames>>
-        requires { leaf_left self.old.leaf ≡ [] }
-        ensures { YieldsFirstBy item_of selected_left self.old result self.new }
+    // What is selected without a frame.
+    fn beneath(
+        leaf: Leaf<'path, 'tape, 'input>,
+        twig: Twig<'path, 'tape, 'input>,
+        root: Value<'tape, 'input>,
+        frames: &'frames mut [Frame<'path, 'tape, 'input>],
+    ) -> Self
+        ensures { selected_left result
+            ≡ map Some (leaf_left leaf.entry ++ twig_left twig.entry) }
     {
-        let found = advance(self.frames, &mut self.opened, &mut self.leaf, self.root);
-        if found.is_some() {
-            return found;
+        Selected {
+            root,
+            frames,
+            opened: 0,
+            leaf,
+            twig,
+            single: None,
         }
-        self.single.take()
+    }
+
+    // The only item, or nothing.
+    fn only(
+        single: Option<Result<Value<'tape, 'input>, TooFewFrames>>,
+        root: Value<'tape, 'input>,
+        frames: &'frames mut [Frame<'path, 'tape, 'input>],
+    ) -> Self
+        ensures { selected_left result ≡ option_to_list (option_map item_of single.entry) }
+    {
+        let leaf: Leaf<'path, 'tape, 'input> = Leaf::nothing();
+        let twig: Twig<'path, 'tape, 'input> = Twig::nothing();
+        Selected {
+            root,
+            frames,
+            opened: 0,
+            leaf,
+            twig,
+            single,
+        }
     }
 
     // Nothing.
@@ -122,14 +141,36 @@ impl<'frames, 'path, 'tape, 'input> Selected<'frames, 'path, 'tape, 'input> {
     ) -> Self
         ensures { selected_left result ≡ [] }
     {
-        let leaf: Leaf<'path, 'tape, 'input> = Leaf::nothing();
-        Selected {
-            root,
-            frames,
-            opened: 0,
-            leaf,
-            single: None,
+        Selected::only(None, root, frames)
+    }
+
+    // The next item, where none is left of the leaf.
+    #[inline(never)]
+    fn next_of_twig(&mut self) -> Option<Result<Value<'tape, 'input>, TooFewFrames>>
+        requires { leaf_left self.old.leaf ≡ [] }
+        ensures { YieldsFirstBy item_of selected_left self.old result self.new }
+    {
+        'values: while let Some(value) = self.twig.values.next() {
+            self.leaf = Leaf::all(self.twig.last, value);
+            if let Some(found) = self.leaf.next() {
+                return Some(Ok(found));
+            }
         }
+        self.next_beneath()
+    }
+
+    // The next item, where none is left of the leaf and of the twig.
+    #[inline(never)]
+    fn next_beneath(&mut self) -> Option<Result<Value<'tape, 'input>, TooFewFrames>>
+        requires leaf { leaf_left self.old.leaf ≡ [] }
+        requires twig { twig_left self.old.twig ≡ [] }
+        ensures { YieldsFirstBy item_of selected_left self.old result self.new }
+    {
+        let found = advance(self.frames, &mut self.opened, &mut self.leaf, self.root);
+        if found.is_some() {
+            return found;
+        }
+        self.single.take()
     }
 }
 
@@ -148,7 +189,12 @@ impl<'frames, 'path, 'tape, 'input> Iterator for Selected<'frames, 'path, 'tape,
         if let Some(value) = self.leaf.next() {
             return Some(Ok(value));
         }
-        let item = self.next_beneath()?;
+        let twig = self.twig;
+        if twig.is_done() {
+            let item = self.next_beneath()?;
+            return Some(item);
+        }
+        let item = self.next_of_twig()?;
         Some(item)
     }
 }

@@ -9,8 +9,10 @@ const NULLS: &str = "{\"a\":null,\"b\":[null],\"c\":[{}],\"null\":1}";
 const STORE: &str = "{\"store\":{\"book\":[\
     {\"category\":\"reference\",\"author\":\"Nigel Rees\",\"price\":8.95},\
     {\"category\":\"fiction\",\"author\":\"Evelyn Waugh\",\"price\":12.99},\
-    {\"category\":\"fiction\",\"author\":\"Herman Melville\",\"isbn\":\"0-553-21311-3\",\"price\":8.99},\
-    {\"category\":\"fiction\",\"author\":\"J. R. R. Tolkien\",\"isbn\":\"0-395-19395-8\",\"price\":22.99}],\
+    {\"category\":\"fiction\",\"author\":\"Herman Melville\",\
+    \"isbn\":\"0-553-21311-3\",\"price\":8.99},\
+    {\"category\":\"fiction\",\"author\":\"J. R. R. Tolkien\",\
+    \"isbn\":\"0-395-19395-8\",\"price\":22.99}],\
     \"bicycle\":{\"color\":\"red\",\"price\":399}}}";
 
 #[test]
