@@ -95,10 +95,15 @@ pub(crate) fn are_singular(segments: &[Segment<'_, Selector<'_>>]) -> bool
 fn is_single(selectors: &[Selector<'_>]) -> bool
     ensures { result ≡ is_single selectors.now }
 {
-    matches!(
-        selectors,
-        [Selector::Choice(Choice::Name(_))] | [Selector::Choice(Choice::Index(_))]
-    )
+    let Some((first, others)) = selectors.split_first() else {
+        return false;
+    };
+    match first {
+        Selector::Choice(choice) => {
+            others.is_empty() && matches!(choice, Choice::Name(_) | Choice::Index(_))
+        }
+        Selector::Filter(_) => false,
+    }
 }
 
 /// How many frames suffice for each query, in a document in which so many arrays and objects are
