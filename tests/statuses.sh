@@ -358,7 +358,13 @@ wanted 'a path that ends early' 2 '' 'jpick: `$.a[` is not a JSONPath: expected 
 given '1' /a --and '$.a[?match(@.b, "c")]'
 wanted 'a path with match' 2 '' 'jpick: `$.a[?match(@.b, "c")]` is not a JSONPath: expected a test without match or search at byte 5\n'
 given '1' '$..a' --depth 2000
-wanted 'a path with .. and a great depth' 2 '' 'jpick: depth 2000 and the segments of a JSONPath with `..` are together more than 1088\n'
+wanted 'a path with .. and a great depth' 2 '' 'jpick: depth 2000 and the segments of a query with `..` are together more than 1088\n'
+given '1' '$[?@..a]' --depth 1089
+wanted 'a filter with .. and a great depth' 2 '' 'jpick: depth 1089 and the segments of a query with `..` are together more than 1088\n'
+given '1' --where '@..a' --depth 1089 ''
+wanted 'a condition with .. and a great depth' 2 '' 'jpick: depth 1089 and the segments of a query with `..` are together more than 1088\n'
+given '{"a..b":1}' '/a..b' --depth 1089
+wanted 'a pointer with .. and a great depth' 0 '1\n' ''
 given '1' "$room/a"
 wanted 'a pointer that is the name of a file' 0 '\n' ''
 echo '[1]' > "$room/one"

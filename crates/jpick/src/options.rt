@@ -10,6 +10,7 @@ use crate::query::{Query, frames};
 use crate::rows::MOST;
 use bumpalo::Bump;
 use clap::{Arg, ArgAction, ArgMatches, Command, Error, value_parser};
+use memchr::memmem;
 use simd_json::{DEFAULT_MAX_DEPTH, Pointer};
 use simd_json_path::{Filter, Path, PathError, PathExpected};
 use std::alloc::{AllocError, AllocFailed, Global};
@@ -76,7 +77,11 @@ impl<'a> Options<'a> {
         let depth = matches
             .get_one::<usize>("depth")
             .unwrap_or(DEFAULT_MAX_DEPTH);
-        if frames(&queries, depth) > MOST {
+        let is_deep = depth > MOST
+            && (any_descends(texts(matches, "query"))
+                || any_descends(texts(matches, "and"))
+                || any_descends(texts(matches, "where")));
+        if is_deep || frames(&queries, depth) > MOST {
             return Err(Unasked::TooDeep(depth));
         }
         Ok(Options {
@@ -209,7 +214,7 @@ pub enum Unasked<'a> {
     NoPath(&'a str, PathError),
     /// A text that is no condition, where that is, and what it lacks there.
     NoCondition(&'a str, PathError),
-    /// This depth limit and the segments of a JSONPath with `..` are together more than 1,088.
+    /// This depth limit and the segments of a query with `..` are together more than 1,088.
     TooDeep(usize),
     /// An allocation failed.
     Memory,
@@ -301,6 +306,18 @@ fn filter_named<'a>(arena: &'a Bump, text: &'a str) -> Result<Filter<'a>, Unaske
         Err(e) if e.expected == PathExpected::Memory => Err(Unasked::Memory),
         Err(e) => Err(Unasked::NoCondition(text, e)),
     }
+}
+
+// Whether one of the texts is no JSON Pointer and has `..`: a filter's query that has it takes stack
+// for each level of a document.
+fn any_descends(texts: &[&str]) -> bool {
+    for text in texts {
+        let bytes = text.as_bytes();
+        if bytes.first() != Some(&b'/') && memmem::find(bytes, b"..").is_some() {
+            return true;
+        }
+    }
+    false
 }
 
 fn flag<'a>(alloc: Global, name: &'a str, help: &'a str) -> Arg<'a> {

@@ -48,7 +48,8 @@ node-step ss s others d is =
 pub choice-step : (others : List (Segment Choice)) (steps : List Step) (cs : List Choice) (i : ℕ) (c : Choice) (d : Document)
     (ds after : List Document) → i < length cs → ds ≡ chosen_by (get_or cs i c) d
     → nodes chosen_by others (followed steps (by_all chosen_by (drop i cs) d)) ++ after
-    ≡ nodes chosen_by others (followed steps ds) ++ (nodes chosen_by others (followed steps (by_all chosen_by (drop (i + 1) cs) d)) ++ after)
+    ≡ nodes chosen_by others (followed steps ds)
+    ++ (nodes chosen_by others (followed steps (by_all chosen_by (drop (i + 1) cs) d)) ++ after)
 choice-step others steps cs i c d ds after some is =
     let on : Document → List Document = λ e. option_to_list (at_steps steps e) in
     let first = chosen_by (get_or cs i c) d in

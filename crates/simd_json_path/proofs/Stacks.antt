@@ -105,7 +105,8 @@ match-more (Some x) none some is = some x is
 -- ---- a query at a value: it is selected, nothing is, or there is no room for it
 
 module _ (root : Document) where
-  pub selected-here : (room : ℕ) (ss : List (Segment Selector)) (d : Document) → (length ss == 0) ≡ true → selected_in root room ss d ≡ Some d ∷ []
+  pub selected-here : (room : ℕ) (ss : List (Segment Selector)) (d : Document) → (length ss == 0) ≡ true
+      → selected_in root room ss d ≡ Some d ∷ []
   selected-here room [] d none = refl
   selected-here room (s ∷ ss) d none = let empty : length (s ∷ ss) ≡ 0 = eqb-true _ _ none in absurd (omega arith)
 

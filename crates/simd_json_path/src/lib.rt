@@ -29,7 +29,7 @@
 //! | RFC 9535 | here |
 //! |---|---|
 //! | name, wildcard, index, slice selectors (2.3.1 to 2.3.4) | [`Choice`] |
-//! | filter selectors (2.3.5): existence of queries, comparisons, `!`, `&&`, `\|\|` | [`Selector`], [`Test`] |
+//! | filter selectors (2.3.5): queries, comparisons, `!`, `&&`, `\|\|` | [`Selector`], [`Test`] |
 //! | `length`, `count` and `value` (2.4) | [`Comparable`] |
 //! | a filter by itself, of one value | [`Filter`], [`Filter::new`] |
 //! | child and descendant segments (2.5) | [`Segment`] |

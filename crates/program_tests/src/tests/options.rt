@@ -287,15 +287,19 @@ fn wrong_places_are_named(rt: HostRuntime) -> Tested {
     Ok(())
 }
 
-// The frames of a path with `..` grow with the depth limit.
+// The frames of a path with `..` grow with the depth limit, and so does the stack of a filter with it.
 #[test]
 fn depths_have_a_bound(rt: HostRuntime) -> Tested {
-    let rows: [(&[&str], usize); 5] = [
+    let rows: [(&[&str], usize); 9] = [
         (&["$..a"], 0),
         (&["$.a", "--depth=1000000"], 0),
-        (&["/a", "--depth=1000000"], 0),
+        (&["/a..b", "--depth=1000000"], 0),
         (&["$..a", "--depth=2000"], 2000),
         (&["/a", "--and", "$.a..b", "--depth=1088"], 1088),
+        (&["$[?@..a]", "--depth=1088"], 0),
+        (&["$[?@..a]", "--depth=1089"], 1089),
+        (&["/a", "--and", "$[?count(@..a) > 1]", "--depth=1089"], 1089),
+        (&["", "--where", "@.a && $..b", "--depth=1089"], 1089),
     ];
     for (arguments, depth) in rows {
         let words = words(rt.alloc(), arguments)?;

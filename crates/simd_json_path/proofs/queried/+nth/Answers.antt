@@ -101,9 +101,10 @@ nth_from-returns-in_err-left-2 t c =
     let d = doc c.args.node in
     let first = c.in-Some.first.now in
     let segments = c.args.segments.now in
+    let below = children_left c.of.result in
     ap document_of c.from_residual-in_err-left-2.ensures
     ∙ c.in_err-left-2.ensures
-    ∙ ap (λ xs. sought xs c.loop-choice.left) (below-step segments first.is_descendant d (children_left c.of.result) c.if-first.true c.of.ensures)
+    ∙ ap (λ xs. sought xs c.loop-choice.left) (below-step segments first.is_descendant d below c.if-first.true c.of.ensures)
     ∙ ap (λ xs. sought xs c.loop-choice.left) (sym (choices-end c.in-Some.others.now first.steps.now first.selectors.now
     c.loop-choice.choice-index d (nodes chosen_by segments (entered first.is_descendant d)) (omega arith)))
     ∙ c.loop-choice.invariant
