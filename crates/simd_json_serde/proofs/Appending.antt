@@ -1,0 +1,33 @@
+-- Nodes in memory that grows, one more at a time.
+use Rattle.std.proofs.Common.{◌≡◌, ◌∙◌, ap, sym, ℕ, ◌<◌, ◌+◌, refl, arith, List, [], ◌∷◌, ◌++◌, length, map}
+use Rattle.std.proofs.Common.{zero, suc}
+use Rattle.std.specs.Prelude.{slice_set}
+use Rattle.std.proofs.lemmas.List.{length-append, length-map, map-append, map-set}
+use Rattle.simd_json_stages.specs.Placed.{Placed}
+use Rattle.simd_json_serde.specs.KeptNodes.{kept_of}
+use Rattle.simd_json_serde.specs.declared.kept_node.KeptNode.{KeptNode}
+
+pub length-push : {X : Type 0} (xs : List X) (x : X) → length (xs ++ x ∷ []) ≡ length xs + 1
+length-push xs x = length-append xs (x ∷ [])
+
+pub kept-push : (ps : List Placed) (p : Placed) (nodes newer : List KeptNode) (node : KeptNode) → nodes ≡ map kept_of ps
+    → node ≡ kept_of p → newer ≡ nodes ++ node ∷ [] → newer ≡ map kept_of (ps ++ p ∷ [])
+kept-push ps p nodes newer node kept is put =
+    put ∙ ap (λ l. l ++ node ∷ []) kept ∙ ap (λ y. map kept_of ps ++ y ∷ []) is ∙ sym (map-append kept_of ps (p ∷ []))
+
+pub kept-set : (ps : List Placed) (i : ℕ) (p : Placed) (nodes newer : List KeptNode) (node : KeptNode) → nodes ≡ map kept_of ps
+    → i < length ps → node ≡ kept_of p → (i < length nodes → newer ≡ slice_set nodes i node) → newer ≡ map kept_of (slice_set ps i p)
+kept-set ps i p nodes newer node kept within is fits =
+    fits (omega (arith, within, ap length kept, length-map ps kept_of)) ∙ ap (λ l. slice_set l i node) kept
+    ∙ ap (λ y. slice_set (map kept_of ps) i y) is ∙ sym (map-set kept_of ps i p)
+
+-- One more is kept or lost.
+pub counted-push : (ps : List Placed) (p : Placed) (nodes newer : List KeptNode) (node : KeptNode) (lost after : ℕ)
+    → length nodes + lost ≡ length ps → (after ≡ 0 → (lost ≡ 0) × (newer ≡ nodes ++ node ∷ []))
+    → (0 < after → (after ≡ lost + 1) × (newer ≡ nodes)) → length newer + after ≡ length (ps ++ p ∷ [])
+counted-push ps p nodes newer node lost zero is kept more =
+    let k = kept refl in
+    omega (arith, is, k.0, ap length k.1, length-push nodes node, length-push ps p)
+counted-push ps p nodes newer node lost (suc after) is kept more =
+    let m = more (omega arith) in
+    omega (arith, is, m.0, ap length m.1, length-push ps p)
