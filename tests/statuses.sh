@@ -180,10 +180,24 @@ given '{}'
 said 'no key' 2 'KEY|POINTER'
 given '{}' --shortest level
 said 'an option that there is not' 2 '--shortest'
-for longest in x -1 '' 4294967296; do
+for longest in x -1 '' 4294967296 +1 -0; do
     given '{}' "--longest=$longest" level
     said "log_report --longest=$longest" 2 '--longest <BYTES>'
 done
+for values in +1 -0; do
+    given '{}' "--values=$values" level
+    said "log_report --values=$values" 2 "invalid value '$values' for '--values <N>': invalid digit found in string"
+done
+
+# Of selectors JSON Pointers alone may be malformed: a key may be of any bytes.
+for pointer in '/~' '/a/~2' '/~/0' '/~1~' '/~01~'; do
+    given '{}' "$pointer"
+    said "the pointer $pointer" 2 "invalid value '$pointer' for '<KEY|POINTER>': expected 0 or 1 after each ~"
+    given '{}' level --and "$pointer"
+    said "the pointer $pointer, by --and" 2 "invalid value '$pointer' for '<KEY|POINTER>': expected 0 or 1 after each ~"
+done
+given '{"~":1,"~1":2}' '~' --and /~0 --and '/~01' --and / --and '~1' --and '' --and a~
+wanted 'selectors with ~' 0 '1 1\t1\t2\t-\t2\t-\t-\n' ''
 
 # A line ends with its file, and is named by the number that it has there.
 printf '{"k":1}\n{"k":2}' > "$room/a"
@@ -441,6 +455,12 @@ wanted 'a caret after wide characters' 1 \
     '-:1:15: expected a key after `,`, found `x` [ExpectedObjectKey at byte 24]\n{"名前": "李小龙", x: 1}\n%19s^\n' ''
 given '\357\273\277{}'
 wanted 'a byte order mark' 1 '-:1:1: byte order mark [InternalError at byte 0]\n<U+FEFF>{}\n^\n' ''
+for depth in +1 -0 x; do
+    given '1' "--depth=$depth"
+    said "jcheck --depth=$depth" 2 "invalid value '$depth' for '--depth <N>': invalid digit found in string"
+done
+given '1' --depth 007
+wanted 'a depth with zeros in front, checked' 0 '' ''
 for option in --color=never --lines; do
     "$program" "$option" < / > "$room/out" 2> "$room/err"
     status=$?

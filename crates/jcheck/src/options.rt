@@ -1,6 +1,7 @@
 //! What the program's arguments ask for.
 use clap::builder::ValueParser;
 use clap::{Arg, ArgAction, Command, Error, value_parser};
+use jsonl::check_digits;
 use simd_json_check::DEFAULT_MAX_DEPTH;
 use std::alloc::Global;
 
@@ -48,7 +49,9 @@ impl<'a> Options<'a> {
 /// Returns what the arguments ask for; the first word is the program's name. The error is the text
 /// of `--help` or `--version`, or says what is not understood.
 pub fn asked<'a>(alloc: Global, words: &'a [String]) -> Result<Options<'a>, Error> {
-    let matches = command(alloc)?.try_get_matches_from(words)?;
+    let mut command = command(alloc)?;
+    let matches = command.try_get_matches_from_mut(words)?;
+    check_digits(alloc, &mut command, &matches, "depth", "--depth <N>")?;
     let mut files = Vec::new(alloc);
     match matches.get_strs("file") {
         Some(names) => files.extend_from_slice(names)?,

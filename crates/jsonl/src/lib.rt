@@ -7,7 +7,10 @@
 //! - [`tsv_escape`]: what stands for a byte in tab separated text.
 //! - [`Failure`]: why a run ended before the end of its input. [`ending`]: the exit status, and the
 //!   line for standard error.
-//! - [`arguments`]: the words of the command line. [`help_status`]: the exit status after help.
+//! - [`arguments`]: the words of the command line. [`words_status`], [`fault_status`],
+//!   [`help_status`]: the exit status without them, where they are refused, and after help.
+//! - [`check_digits`], [`has_digits_alone`]: whether a number has digits alone. [`invalid_value`]: the
+//!   error of a value that an argument does not take.
 //!
 //! ```
 //! use jsonl::{Channel, Failure, Lines, Step};
@@ -41,7 +44,10 @@ mod tsv;
 mod whole;
 
 pub use channel::Channel;
-pub use command_line::{arguments, help_status};
+pub use command_line::{
+    arguments, check_digits, fault_status, has_digits_alone, help_status, invalid_value,
+    words_status,
+};
 pub use failure::{Failure, ending, put_name};
 pub use lines::{Lines, Step};
 pub use rejection::{Words, rejection_words};

@@ -6,5 +6,6 @@ pub mod Inputs
 mod Orders
 mod Places
 mod Reported
+mod Selectors
 mod Shown
 mod Written

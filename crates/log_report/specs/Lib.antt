@@ -1,3 +1,4 @@
+pub mod Asked
 pub mod Report
 pub mod Rows
 pub mod Runs

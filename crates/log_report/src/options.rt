@@ -1,6 +1,13 @@
 //! What the program's arguments ask for.
+ghost use Rattle.std.specs.Prelude.{◌≡◌, IfOk, true};
+ghost use Rattle.std.specs.List.{list_all};
+ghost use Rattle.clap.specs.Kinds.{FailsBy};
+ghost use Rattle.log_report.specs.Asked.{is_key_or_pointer, is_selector, selector_faults};
+
 use crate::rows::Wanted;
 use clap::{Arg, ArgAction, Command, Error, value_parser};
+use jsonl::{check_digits, invalid_value};
+use simd_json_parts::pointer::{PointerExpected, is_well_formed};
 use std::alloc::Global;
 
 const STANDARD_INPUT: &str = "-";
@@ -47,12 +54,24 @@ impl<'a> Options<'a> {
 }
 
 /// Returns what the arguments ask for; the first word is the program's name. The error is the text
-/// of `--help` or `--version`, or says what is not understood.
-pub fn asked<'a>(alloc: Global, words: &'a [String]) -> Result<Options<'a>, Error> {
-    let matches = command(alloc)?.try_get_matches_from(words)?;
+/// of `--help` or `--version`, or says what is not understood: also a malformed JSON Pointer.
+pub fn asked<'a>(alloc: Global, words: &'a [String]) -> Result<Options<'a>, Error>
+    ensures { IfOk result (λ asked. list_all is_selector asked.selectors.items ≡ true) }
+{
+    let mut command = command(alloc)?;
+    let matches = command.try_get_matches_from_mut(words)?;
+    check_digits(
+        alloc,
+        &mut command,
+        &matches,
+        "longest",
+        "--longest <BYTES>",
+    )?;
+    check_digits(alloc, &mut command, &matches, "values", "--values <N>")?;
     let mut selectors = Vec::new(alloc);
     selectors.push(matches.get_str("selector").unwrap_or(""))?;
     selectors.extend_from_slice(matches.get_strs("and").unwrap_or_default())?;
+    check_selectors(alloc, &mut command, selectors.as_slice())?;
     let mut files = Vec::new(alloc);
     match matches.get_strs("file") {
         Some(names) => files.extend_from_slice(names)?,
@@ -66,6 +85,39 @@ pub fn asked<'a>(alloc: Global, words: &'a [String]) -> Result<Options<'a>, Erro
         longest: longest as usize,
         files,
     })
+}
+
+// Checks that no selector is a malformed JSON Pointer.
+fn check_selectors(
+    alloc: Global,
+    command: &mut Command<'_>,
+    selectors: &[&str],
+) -> Result<(), Error>
+    ensures { FailsBy (selector_faults selectors.now) result }
+{
+    for selector in selectors {
+        if !is_selector(*selector) {
+            let reason = format!(in alloc; "expected {}", PointerExpected::Escape)?;
+            let error = invalid_value(alloc, command, "<KEY|POINTER>", *selector, reason.as_str())?;
+            return Err(error);
+        }
+    }
+    Ok(())
+}
+
+// Whether it is a key, or a JSON Pointer (RFC 6901, section 3). One that begins with `/` is
+// malformed only where a `~` is followed by neither `0` nor `1`.
+fn is_selector(selector: &str) -> bool
+    ensures { result ≡ is_key_or_pointer selector.now }
+{
+    let bytes = selector.as_bytes();
+    if bytes.is_empty() {
+        return true;
+    }
+    if bytes[0] != b'/' {
+        return true;
+    }
+    is_well_formed(bytes)
 }
 
 fn command<'a>(alloc: Global) -> Result<Command<'a>, Error> {

@@ -1,4 +1,4 @@
-//! What the arguments of `jpick` ask for, and how files are picked of in turn.
+//! What the arguments of the programs ask for, and how files are picked of in turn.
 use crate::tests::Tested;
 use bumpalo::Bump;
 use jpick::{Layout, Query, Unasked, asked, pick_each};
@@ -155,6 +155,58 @@ fn a_depth_is_read(rt: HostRuntime) -> Tested {
         match asked(rt.alloc(), &arena, words.as_slice()) {
             Ok(options) => assert_eq!(rt; options.wanted().depth, depth),
             Err(_) => assert!(rt; false),
+        }
+    }
+    Ok(())
+}
+
+// A number has digits alone.
+#[test]
+fn numbers_are_read(rt: HostRuntime) -> Tested {
+    let rows: [(&str, bool); 8] = [
+        ("0", true),
+        ("7", true),
+        ("007", true),
+        ("", false),
+        ("+7", false),
+        ("-0", false),
+        ("7 ", false),
+        ("x", false),
+    ];
+    for (number, is_read) in rows {
+        for option in ["--depth", "--longest", "--values"] {
+            let of_jcheck = words(rt.alloc(), &[option, number])?;
+            let others = words(rt.alloc(), &["/a", option, number])?;
+            let is_checked = jcheck::asked(rt.alloc(), of_jcheck.as_slice()).is_ok();
+            let is_counted = log_report::asked(rt.alloc(), others.as_slice()).is_ok();
+            assert_eq!(rt; is_checked, is_read && option == "--depth");
+            assert_eq!(rt; is_counted, is_read && option != "--depth");
+        }
+    }
+    Ok(())
+}
+
+// Lines are counted by any key, and by any JSON Pointer that is not malformed.
+#[test]
+fn selectors_are_read(rt: HostRuntime) -> Tested {
+    let rows: [(&str, bool); 11] = [
+        ("", true),
+        ("~", true),
+        ("a/~2", true),
+        ("/", true),
+        ("/~0", true),
+        ("/~01/~1", true),
+        ("/~", false),
+        ("/~2", false),
+        ("/~/0", false),
+        ("/a/~1~", false),
+        ("/~~0", false),
+    ];
+    for (selector, is_read) in rows {
+        for arguments in [[selector, "--and", "a"], ["a", "--and", selector]] {
+            let words = words(rt.alloc(), arguments.as_slice())?;
+            let options = log_report::asked(rt.alloc(), words.as_slice());
+            assert_eq!(rt; options.is_ok(), is_read);
         }
     }
     Ok(())
