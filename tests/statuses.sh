@@ -395,6 +395,12 @@ for option in --where-not --exists; do
     given '1' "$option" /a /a
     said "jpick $option" 2 "$option"
 done
+for number in +1 -0; do
+    given '1' "--depth=$number" /a
+    said "jpick --depth=$number" 2 "invalid value '$number' for '--depth <N>': invalid digit found in string"
+    given '1' "--longest=$number" /a
+    said "jpick --longest=$number" 2 "invalid value '$number' for '--longest <BYTES>': invalid digit found in string"
+done
 "$program" /a < / > "$room/out" 2> "$room/err"
 status=$?
 said 'a folder as input, fields' 3 'jpick: -: '

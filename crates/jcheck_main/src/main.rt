@@ -7,7 +7,7 @@ use jcheck::{
     Checker, Ended, Failure, Options, Style, asked, check_document, check_each, check_lines,
     is_colored,
 };
-use jsonl::{Channel, arguments, help_status};
+use jsonl::{Channel, arguments, fault_status, help_status, words_status};
 use std::io::{IsTerminal, Read};
 use std::process::ExitCode;
 use std::{env, fs, io};
@@ -17,7 +17,7 @@ fn main(rt: HostRuntime) -> ExitCode {
         Ok(words) => program(&rt, words.as_slice()),
         Err(e) => {
             let _ = eprintln!(rt; "jcheck: {e}");
-            2
+            words_status(&e)
         }
     };
     ExitCode::from(code)
@@ -28,7 +28,7 @@ fn program(rt: &HostRuntime, words: &[String]) -> u8 {
         Ok(options) => check_files(rt, &options).status(),
         Err(e) if e.use_stderr() => {
             let _ = e.print(rt);
-            2
+            fault_status(&e)
         }
         Err(e) => help_status(rt, "jcheck", &e.print(rt)),
     }

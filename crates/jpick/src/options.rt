@@ -10,6 +10,7 @@ use crate::query::{Query, frames};
 use crate::rows::MOST;
 use bumpalo::Bump;
 use clap::{Arg, ArgAction, ArgMatches, Command, Error, value_parser};
+use jsonl::check_digits;
 use memchr::memmem;
 use simd_json::{DEFAULT_MAX_DEPTH, Pointer};
 use simd_json_path::{Filter, Path, PathError, PathExpected};
@@ -245,7 +246,10 @@ pub fn asked<'a>(
     arena: &'a Bump,
     words: &'a [String],
 ) -> Result<Options<'a>, Unasked<'a>> {
-    let matches = command(alloc)?.try_get_matches_from(words)?;
+    let mut command = command(alloc)?;
+    let matches = command.try_get_matches_from_mut(words)?;
+    check_digits(alloc, &mut command, &matches, "limit", "--longest <BYTES>")?;
+    check_digits(alloc, &mut command, &matches, "depth", "--depth <N>")?;
     Options::of(alloc, arena, &matches)
 }
 

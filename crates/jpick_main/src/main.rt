@@ -4,7 +4,7 @@
 
 use bumpalo::Bump;
 use jpick::{Options, Unasked, Wanted, asked, pick_each, run, write_header};
-use jsonl::{Channel, Failure, Source, arguments, ending, help_status};
+use jsonl::{Channel, Failure, Source, arguments, ending, fault_status, help_status, words_status};
 use std::io::{self, IsTerminal};
 use std::path::Path;
 use std::process::ExitCode;
@@ -14,7 +14,7 @@ fn main(rt: HostRuntime) -> ExitCode {
         Ok(words) => program(&rt, words.as_slice()),
         Err(e) => {
             let _ = eprintln!(rt; "jpick: {e}");
-            2
+            words_status(&e)
         }
     };
     ExitCode::from(code)
@@ -29,7 +29,7 @@ fn program(rt: &HostRuntime, words: &[String]) -> u8 {
         },
         Err(Unasked::Text(e)) if e.use_stderr() => {
             let _ = e.print(rt);
-            2
+            fault_status(&e)
         }
         Err(Unasked::Text(e)) => help_status(rt, "jpick", &e.print(rt)),
         Err(Unasked::NoQuery(word)) => print_unasked(rt, word),

@@ -1,10 +1,9 @@
 //! The program's arguments.
 ghost use Rattle.std.specs.Prelude.{◌≡◌, map, string_bytes};
-ghost use Rattle.std.specs.Char.{is_ascii_digit};
-ghost use Rattle.std.specs.List.{list_all};
 ghost use Rattle.jtape.specs.Output.{layout_of};
 ghost use Rattle.jtape.specs.Settings.{mode_of, word_number, settings_of};
 
+use jsonl::has_digits_alone;
 use simd_json::DEFAULT_MAX_DEPTH;
 
 /// What is printed: of the input as one document, or in mode `Lines` of each of its lines.
@@ -82,10 +81,4 @@ pub fn number_named(word: &str) -> Option<usize>
     } else {
         None
     }
-}
-
-fn has_digits_alone(word: &str) -> bool
-    ensures { result ≡ list_all is_ascii_digit word.now }
-{
-    word.as_bytes().iter().all(|byte| byte.is_ascii_digit())
 }

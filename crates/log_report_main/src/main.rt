@@ -5,7 +5,7 @@
 
 mod lenient;
 
-use jsonl::{Channel, Source, arguments, ending, help_status};
+use jsonl::{Channel, Source, arguments, ending, fault_status, help_status, words_status};
 use lenient::Lenient;
 use log_report::{Input, Options, asked, run};
 use std::alloc::AllocError;
@@ -17,7 +17,7 @@ fn main(rt: HostRuntime) -> ExitCode {
         Ok(words) => program(&rt, words.as_slice()),
         Err(e) => {
             let _ = eprintln!(rt; "log_report: {e}");
-            2
+            words_status(&e)
         }
     };
     ExitCode::from(status)
@@ -34,7 +34,7 @@ fn program(rt: &HostRuntime, words: &[String]) -> u8 {
         },
         Err(e) if e.use_stderr() => {
             let _ = e.print(rt);
-            2
+            fault_status(&e)
         }
         Err(e) => help_status(rt, "log_report", &e.print(rt)),
     }

@@ -174,13 +174,16 @@ fn numbers_are_read(rt: HostRuntime) -> Tested {
         ("x", false),
     ];
     for (number, is_read) in rows {
+        let arena = Bump::new(rt.alloc());
         for option in ["--depth", "--longest", "--values"] {
             let of_jcheck = words(rt.alloc(), &[option, number])?;
             let others = words(rt.alloc(), &["/a", option, number])?;
             let is_checked = jcheck::asked(rt.alloc(), of_jcheck.as_slice()).is_ok();
             let is_counted = log_report::asked(rt.alloc(), others.as_slice()).is_ok();
+            let is_picked = asked(rt.alloc(), &arena, others.as_slice()).is_ok();
             assert_eq!(rt; is_checked, is_read && option == "--depth");
             assert_eq!(rt; is_counted, is_read && option != "--depth");
+            assert_eq!(rt; is_picked, is_read && option != "--values");
         }
     }
     Ok(())
