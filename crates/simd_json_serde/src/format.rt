@@ -18,8 +18,8 @@ ghost use Rattle.simd_json_serde.specs.Faults.{reader_fault, length_fault, IsFul
 ghost use Rattle.simd_json_serde.specs.Places.{place, LiesAhead};
 ghost use Rattle.simd_json_parts.specs.Document.{Document};
 ghost use Rattle.simd_json_parts.specs.Listing.{listing};
-ghost use Rattle.simd_json_parts.specs.Nodes.{Item, item_of};
-ghost use Rattle.simd_json_serde.specs.Nodes.{items_of};
+ghost use Rattle.simd_json_parts.specs.Nodes.{item_of};
+ghost use Rattle.simd_json_parts.specs.declared.node.Node.{Node as SpecNode};
 ghost use Rattle.simd_json_serde.specs.declared.node_reader.NodeReader.{NodeReader as SpecReader};
 ghost use Rattle.simd_json_serde.specs.Steps.{ReadsAs, PicksName, Stands, nodes_beneath};
 ghost use Rattle.simd_json_serde.specs.Steps.{AreBytesAt, Closes};
@@ -206,11 +206,12 @@ impl<'n, 'i> Format for NodeReader<'n, 'i> {
         ensures err { OnErr result (LiesAhead self.old input.now → ⊥) }
         ensures place { IfErr result (IsOfNext self.old) }
     {
-        let start = self.nodes.start(self.at);
+        let start = self.starts.get(self.at).copied();
         let text = self.take_string()?;
         let Some(start) = start else {
             return Err(self.fault(MismatchKind::InvalidValue));
         };
+        let start = start as usize;
         let end = start.saturating_add(text.len());
         if input.get(start..end) == Some(text.as_bytes()) {
             Ok((start, end))
@@ -415,10 +416,10 @@ impl<'n, 'i> Format for NodeReader<'n, 'i> {
     // A container's members are passed in one step.
     #[inline(always)]
     fn skip(&mut self, _input: &[u8]) -> Result<(), Fault>
-        ensures passed { OnOk result ((item : Item)
-            × (slice_get (items_of self.old.nodes) self.old.at ≡ Some item)
+        ensures passed { OnOk result ((n : SpecNode)
+            × (slice_get self.old.nodes.now self.old.at ≡ Some n)
             × (place self.new ≡ record (place self.old) {
-              at = self.old.at + 1 + nodes_beneath item;
+              at = self.old.at + 1 + nodes_beneath (item_of n);
               at_key = false;
             })) }
         ensures value { OnOk result ((d : Document) → Stands (place self.old) d
@@ -542,13 +543,13 @@ impl<'n, 'i> NodeReader<'n, 'i> {
         requires at { self.old.at ≤ self.old.end }
         requires value { self.old.at_key ≡ false }
         requires open { self.old.outer.items ≢ [] }
-        ensures given { IfOk result (λ v. AreBytesAt (items_of self.old.nodes) self.old.at v.items
+        ensures given { IfOk result (λ v. AreBytesAt self.old.nodes.now self.old.at v.items
             × (self.old.at + length v.items ≡ self.old.end)) }
         ensures closed { OnOk result
             (Closes (record (place self.old) { at = self.old.end }) (place self.new)) }
         ensures err { IfErr result (λ e. (bytes : List ℕ)
             → self.old.at + length bytes ≡ self.old.end
-            → AreBytesAt (items_of self.old.nodes) self.old.at bytes
+            → AreBytesAt self.old.nodes.now self.old.at bytes
             → e.kind ≡ MismatchKind.OutOfMemory) }
     {
         let mut bytes = Vec::new(alloc);
