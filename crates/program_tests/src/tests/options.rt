@@ -353,7 +353,10 @@ fn depths_have_a_bound(rt: HostRuntime) -> Tested {
         (&["/a", "--and", "$.a..b", "--depth=1088"], 1088),
         (&["$[?@..a]", "--depth=1088"], 0),
         (&["$[?@..a]", "--depth=1089"], 1089),
-        (&["/a", "--and", "$[?count(@..a) > 1]", "--depth=1089"], 1089),
+        (
+            &["/a", "--and", "$[?count(@..a) > 1]", "--depth=1089"],
+            1089,
+        ),
         (&["", "--where", "@.a && $..b", "--depth=1089"], 1089),
     ];
     for (arguments, depth) in rows {
