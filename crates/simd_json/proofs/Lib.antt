@@ -1,3 +1,4 @@
 pub mod Parses
 pub mod Views
 pub mod Walks
+pub mod Keeping

@@ -13,3 +13,4 @@ pub mod Beneath
 pub mod Sizes
 pub mod Descending
 pub mod MapCompared
+pub mod KeptSpans

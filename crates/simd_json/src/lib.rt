@@ -35,6 +35,7 @@
 //! | exclude `OutOfMemory` for inputs up to a size | [`reserve`], before the parses |
 //! | make nodes of your own, without a tape | [`fill_sink`] with a [`NodeSink`] |
 //! | the same with texts that stay in the input | [`fill_spans`] with a [`SpanSink`] |
+//! | keep those in a list | [`keep_spans`] with a [`SpanNode`] |
 //! | look at values | [`Value`](tape::Value), [`Array`](tape::Array), [`Object`](tape::Object) |
 //! | visit all values | [`Value::descendants`](tape::Value::descendants) |
 //! | follow a JSON Pointer (RFC 6901) | [`Value::pointer`](tape::Value::pointer), [`Pointer`] |
@@ -75,6 +76,7 @@
 
 mod buffers;
 mod deserializer;
+mod kept;
 pub mod laws;
 mod parse;
 mod sink;
@@ -83,6 +85,7 @@ pub mod value;
 
 pub use buffers::Buffers;
 pub use deserializer::Deserializer;
+pub use kept::{SpanNode, keep_spans};
 pub use parse::{
     check, fill_tape, fill_tape_padded, refill_tape, reserve, to_tape, to_tape_with_buffers,
 };

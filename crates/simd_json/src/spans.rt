@@ -24,6 +24,7 @@ use std::marker::Brand;
 /// error, and their texts lie in `s`. Other bytes of `s` are unspecified. In any case room of the
 /// sink and what it borrows stay the same. If the buffers have capacity for as many bytes as `s`
 /// has, `OutOfMemory` is not returned.
+#[inline(always)]
 pub fn fill_spans<S: SpanSink, A: Allocator>(
     s: &mut [u8],
     buffers: &mut Buffers<A>,

@@ -1,7 +1,6 @@
 mod Whole
 mod LooseValues
 mod HeldValues
-mod Keeping
 mod Placing
 mod Calling
 mod Naming

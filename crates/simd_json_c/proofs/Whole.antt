@@ -11,11 +11,11 @@ use Rattle.simd_json_parts.specs.Document.{element, elements, Members, no_member
 use Rattle.simd_json_parts.specs.Listing.{listing, elements_listing, members_listing}
 use Rattle.simd_json_parts.specs.Nodes.{Item, static_item, decimal_item, string_item, array_item, object_item}
 use Rattle.simd_json_parts.specs.declared.node.StaticNode.TheVariants as fixed
+use Rattle.simd_json.specs.KeptSpans.{AreFormed}
 use Rattle.simd_json.specs.Parsed.{IsParseResult}
 use Rattle.simd_json_stages.specs.Placed.{LiesIn, Placed}
 use Rattle.simd_json_c.specs.Lent.{AreKept}
-use Rattle.simd_json_c.specs.Loans.{AreCut, cut, cut_of}
-use Rattle.simd_json_c.specs.Nodes.{item_node, node_of}
+use Rattle.simd_json_c.specs.Nodes.{cut, cut_of, item_node, node_of}
 use Rattle.simd_json_c.specs.declared.nodes.Node.{Node}
 use Rattle.simd_json_c.proofs.Placing.{value-some}
 
@@ -102,7 +102,7 @@ some-byte b limit capacity ns p =
     omega (arith, value-some p.1.parsed.document, ap length p.1.parsed.listed, p.1.few.0, p.1.few.1)
 
 pub kept-whole : (b bytes : List ℕ) (limit capacity : ℕ) (ps : List Placed) (nodes : List Node)
-    → IsParseResult b limit capacity None (map (λ (p : Placed). p.item) ps) → length bytes ≡ length b → AreCut ps bytes nodes
+    → IsParseResult b limit capacity None (map (λ (p : Placed). p.item) ps) → length bytes ≡ length b → AreFormed cut_of ps bytes nodes
     → AreKept (map (λ (p : Placed). p.item) ps) bytes nodes × (length nodes ≡ length (map (λ (p : Placed). p.item) ps))
 kept-whole b bytes limit capacity ps nodes p size are =
     let ns = map (λ (p : Placed). p.item) ps in

@@ -11,5 +11,3 @@ pub mod Chosen
 pub mod Lent
 pub mod Found
 pub mod Doubles
-pub mod Notes
-pub mod Loans

@@ -1,5 +1,5 @@
 -- A tape as a program in C gets it: nodes of fixed size, and the input, in which their texts are.
-use Rattle.std.specs.Prelude.{ℕ, length, true, false}
+use Rattle.std.specs.Prelude.{◌%◌, ◌^◌, ℕ, length, true, false}
 use Rattle.std.specs.Int.{cast_unsigned, w64}
 use Rattle.simd_json_parts.specs.Nodes.{Item, static_item, decimal_item, string_item, array_item, object_item}
 use Rattle.simd_json_parts.specs.declared.node.StaticNode.{StaticNode}
@@ -30,3 +30,10 @@ item_node at len (object_item members count) = span 9 members count
 
 abbrev pub node_of : Placed → Node
 node_of p = item_node p.at (length p.text) p.item
+
+-- a node as it is written, with the lower 32 bits of its length: of a document's node these are all
+abbrev pub cut : Node → Node
+cut n = record n { len = n.len % 2 ^ 32 }
+
+abbrev pub cut_of : Placed → Node
+cut_of p = cut (node_of p)

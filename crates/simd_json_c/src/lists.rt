@@ -15,12 +15,12 @@ ghost use Rattle.simd_json_c.specs.Kept.{AreNew, IsReadWith, KeepsLists};
 ghost use Rattle.simd_json_c.specs.Lent.{AreLent};
 ghost use Rattle.simd_json_c.specs.Statuses.{no_value};
 
-use crate::lent::{Lent, keep};
+use crate::lent::Lent;
 use crate::nodes::Node;
 use crate::print::print_at;
 use crate::source::Source;
 use crate::status::{ErrorPlace, NO_VALUE, OUT_OF_MEMORY, reported};
-use simd_json::{Buffers, Result, Tape, refill_tape};
+use simd_json::{Buffers, Result, Tape, keep_spans, refill_tape};
 use simd_json_print::document::Level;
 use std::alloc::Global;
 use std::mem::replace;
@@ -176,7 +176,7 @@ impl Lists {
         ensures kept { KeepsLists self.old self.new }
     {
         self.nodes.clear();
-        if !keep(&mut self.buffers, input, &mut self.nodes)? {
+        if !keep_spans(input, &mut self.buffers, &mut self.nodes)? {
             return Ok(OUT_OF_MEMORY);
         }
         *lent = Lent {

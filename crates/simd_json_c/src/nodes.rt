@@ -1,12 +1,9 @@
 //! Nodes as a program in C gets them.
-ghost use Rattle.std.specs.Prelude.{◌≡◌, ℕ, false, true};
-ghost use Rattle.simd_json_parts.specs.Nodes.{static_item};
-ghost use Rattle.simd_json_stages.specs.Building.{header_of};
-ghost use Rattle.simd_json_stages.specs.Placed.{is_long, textless};
-ghost use Rattle.simd_json_c.specs.Nodes.{span, static_node};
-ghost use Rattle.simd_json_c.specs.Loans.{cut, cut_of};
+ghost use Rattle.std.specs.Prelude.{◌≡◌, ℕ, true};
+ghost use Rattle.simd_json_stages.specs.Placed.{is_long};
+ghost use Rattle.simd_json_c.specs.Nodes.{cut, cut_of, span, static_node};
 
-use simd_json::{Container, StaticNode};
+use simd_json::{Container, SpanNode, StaticNode};
 
 /// A node of a tape.
 #[repr(C)]
@@ -20,10 +17,53 @@ pub struct Node {
     pub value: u64,
 }
 
+impl SpanNode for Node {
+    ghost form = { cut_of };
+
+    #[inline(always)]
+    fn string(at: usize, len: usize) -> Node {
+        span_of(7, len, at)
+    }
+
+    #[inline(always)]
+    fn decimal(at: usize, len: usize) -> Node {
+        span_of(6, len, at)
+    }
+
+    #[inline(always)]
+    fn long(at: usize, len: usize, value: StaticNode) -> Node {
+        span_of(long_kind(value), len, at)
+    }
+
+    // Its kind is known where this is inlined, so the other cases disappear.
+    #[inline(always)]
+    fn fixed(value: StaticNode) -> Node {
+        let (kind, value) = match value {
+            StaticNode::Bool(value) => (1, value as u64),
+            StaticNode::I64(value) => (2, value.cast_unsigned()),
+            StaticNode::U64(value) => (3, value),
+            _ => (0, 0),
+        };
+        Node {
+            kind,
+            len: 0,
+            value,
+        }
+    }
+
+    #[inline(always)]
+    fn header(container: Container, len: usize, count: usize) -> Node {
+        match container {
+            Container::Array => span_of(8, len, count),
+            Container::Object => span_of(9, len, count),
+        }
+    }
+}
+
 // A node with so many bytes or members. Only 32 bits of the length are kept: no document needs
 // more, since an input has fewer than 2^32 bytes.
 #[inline(always)]
-pub(crate) fn span_of(kind: u32, len: usize, value: usize) -> Node
+fn span_of(kind: u32, len: usize, value: usize) -> Node
     ensures { result ≡ cut (span kind len value) }
 {
     Node {
@@ -33,39 +73,8 @@ pub(crate) fn span_of(kind: u32, len: usize, value: usize) -> Node
     }
 }
 
-// The header of a container with `len` members and `count` nodes beneath it.
-#[inline(always)]
-pub(crate) fn header_node(container: Container, len: usize, count: usize) -> Node
-    ensures { result ≡ cut_of (textless (header_of container len count)) }
-{
-    match container {
-        Container::Array => span_of(8, len, count),
-        Container::Object => span_of(9, len, count),
-    }
-}
-
-// The node of a value without a text. Its kind is known where this is inlined, so the other cases
-// disappear.
-#[inline(always)]
-pub(crate) fn static_of(value: StaticNode) -> Node
-    requires { is_long value ≡ false }
-    ensures { result ≡ cut_of (textless (static_item value)) }
-{
-    let (kind, value) = match value {
-        StaticNode::Bool(value) => (1, value as u64),
-        StaticNode::I64(value) => (2, value.cast_unsigned()),
-        StaticNode::U64(value) => (3, value),
-        _ => (0, 0),
-    };
-    Node {
-        kind,
-        len: 0,
-        value,
-    }
-}
-
 // The kind of an integer of 128 bits.
-pub(crate) fn long_kind(value: StaticNode) -> u32
+fn long_kind(value: StaticNode) -> u32
     requires { is_long value ≡ true }
     ensures { (at len : ℕ) → static_node at len value ≡ span result len at }
 {

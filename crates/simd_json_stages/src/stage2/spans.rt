@@ -282,7 +282,8 @@ fn hand_decimal<S: SpanSink>(nodes: &mut S, bytes: &mut [u8], at: usize, len: us
 }
 
 // The same as an integer of 128 bits.
-#[inline(always)]
+#[cold]
+#[inline(never)]
 fn hand_long<S: SpanSink>(nodes: &mut S, bytes: &mut [u8], at: usize, len: usize, value: StaticNode)
     requires room { length (S.placed nodes.old) < S.node_room nodes.old }
     requires within { at + len ≤ length bytes.old }
@@ -385,8 +386,7 @@ impl<'n, 'm, 'b, S: SpanSink> Builder for InPlace<'n, 'm, 'b, S> {
         hand_decimal(self.nodes, self.bytes, at, len);
     }
 
-    #[cold]
-    #[inline(never)]
+    #[inline(always)]
     fn push_integer(&mut self, at: usize, len: usize, value: StaticNode) {
         if is_long(&value) {
             self.at = at + len;

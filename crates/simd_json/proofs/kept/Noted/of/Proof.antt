@@ -21,10 +21,10 @@ use denote.Steps.{nothing}
 use denote.Triple.Entry.{alive}
 use denote.Triple.Walked.{says, Stays, stay_dropped, walk_of, ends_at, Goes-dropped}
 use Rattle.std.proofs.raw_atomic.Walks.{proved_at}
-use Rattle.simd_json_c.specs.contracts.lent.Noted.of.{ended, clauses}
-use Rattle.simd_json_c.specs.contracts.lent.Noted.of.Key.{name as #self}
-use Rattle.simd_json_c.proofs.lent.Noted.of.Statement.{statement}
-use Rattle.simd_json_c.proofs.lent.Noted.of.Code as code
+use Rattle.simd_json.specs.contracts.kept.Noted.of.{ended, clauses}
+use Rattle.simd_json.specs.contracts.kept.Noted.of.Key.{name as #self}
+use Rattle.simd_json.proofs.kept.Noted.of.Statement.{statement}
+use Rattle.simd_json.proofs.kept.Noted.of.Code as code
 
 pub of_spec : {M : Type 1} → statement M
 of_spec 𝓤 𝓛 𝓜 𝓡 wired Y laws =

@@ -1,7 +1,0 @@
-use Rattle.simd_json_stages.specs.Building.{header_of}
-use Rattle.simd_json_stages.specs.Placed.{textless}
-use Rattle.simd_json_c.specs.Loans.{noting}
-use Rattle.simd_json_c.proofs.lent.KeptSinkSpanSink.push_header.Given as goal
-
-abbrev pub ghost-of : goal.ghost-of
-ghost-of a = noting a.seen.now.0.now.note (textless (header_of a.seen.now.1 0 0))

@@ -1,6 +1,0 @@
-use Rattle.std.proofs.Common.{[]}
-use Rattle.std.specs.Vec.{vec_capacity}
-use Rattle.simd_json_c.proofs.lent.keep.Given as goal
-
-abbrev pub ghost-of : goal.ghost-of
-ghost-of a = record { placed = []; node_capacity = vec_capacity a.seen.now.now }
