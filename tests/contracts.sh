@@ -20,7 +20,6 @@ jcheck asked                          as above
 jpick asked                           as above
 log_report Options::wanted            as above
 log_report Options::files             as above
-simd_json_serde Texts::new            what it holds changes no result
 simd_json_serde NodeReader::into_outer  the list is empty memory for the next reader
 END
 

@@ -1,5 +1,5 @@
 -- What the first node of a value says, read from its document.
-use Rattle.std.proofs.Common.{◌≡◌, ◌∙◌, ap, sym, refl, ℕ, List, [], ◌∷◌, map, length, slice_get, Option, Some, None, false, arith}
+use Rattle.std.proofs.Common.{◌≡◌, ◌∙◌, ap, sym, refl, ℕ, List, [], ◌∷◌, slice_get, Option, Some, None, arith}
 use Rattle.std.proofs.lemmas.Grind.{common_steps}
 use Rattle.std.proofs.Common.{Result, Ok, Err, IfOk, OnErr, ◌⊎◌, inl, inr}
 use Rattle.std.specs.Prelude.{◌≢◌, option_and_then, option_map, IfErr, encode_utf8}
@@ -8,11 +8,10 @@ use Rattle.std.specs.Char.{IsScalar}
 use Rattle.std.specs.Float.{Format}
 use Rattle.simd_json_parts.specs.Document.{Document, null, boolean, integer, decimal, string, array, object}
 use Rattle.simd_json_parts.specs.Listing.{listing}
-use Rattle.simd_json_parts.specs.Nodes.{Item, item_of}
+use Rattle.simd_json_parts.specs.Nodes.{Item}
 use Rattle.simd_json_parts.specs.Views.{as_bool, as_signed, as_unsigned, as_str}
-use Rattle.simd_json_parts.specs.declared.node.Node.{Node}
 use Rattle.simd_json_parts.proofs.Documents.Integers.{number_in-integer_node, truth_of-integer_node}
-use Rattle.simd_json_serde.specs.Steps.{Place}
+use Rattle.simd_json_serde.specs.Steps.{Place, first_place}
 use Rattle.simd_json_serde.specs.Outcomes.{IsOf, IsNoMemory}
 use Rattle.simd_json_serde.specs.declared.error.Error.{Error}
 use Rattle.simd_json_serde.specs.declared.error.Error.TheVariants.{Parse, Mismatch}
@@ -21,19 +20,13 @@ use Rattle.simd_json_serde.specs.declared.error.MismatchKind.{MismatchKind}
 use Rattle.simd_json_serde.specs.declared.error.MismatchKind.TheVariants.{OutOfMemory}
 use Rattle.simd_json_serde.specs.Ahead.{ahead, truth, signed, unsigned, float, text, as_float}
 
--- a reader's first place in these nodes
-abbrev pub first_place : List Node → Place
-first_place ns = record { nodes = ns; at = 0; end = length ns; outer = []; at_key = false }
-
-first-node : {A : Type 0} (said : Item → Option A) (ns : List Node)
-    → ahead said (first_place ns) ≡ option_and_then said (slice_get (map item_of ns) 0)
-first-node said [] = refl
-first-node said (n ∷ ns) = grind (arith, common_steps)
-
-pub first-said : {A : Type 0} (said : Item → Option A) (d : Document) (p : Place) (ns : List Node) → p ≡ first_place ns
-    → map item_of ns ≡ listing d → ahead said p ≡ option_and_then said (slice_get (listing d) 0)
-first-said said d p ns begins h =
-    ap (ahead said) begins ∙ first-node said ns ∙ ap (λ is. option_and_then said (slice_get is 0)) h
+pub first-said : {A : Type 0} (said : Item → Option A) (d : Document) (p : Place) (ns : List Item) → p ≡ first_place ns
+    → ns ≡ listing d → ahead said p ≡ option_and_then said (slice_get (listing d) 0)
+first-said said d p ns begins h = ap (ahead said) begins ∙ first-node said ns ∙ ap (λ is. option_and_then said (slice_get is 0)) h where
+  first-node : {A : Type 0} (said : Item → Option A) (ns : List Item)
+      → ahead said (first_place ns) ≡ option_and_then said (slice_get ns 0)
+  first-node said [] = refl
+  first-node said (n ∷ ns) = grind (arith, common_steps)
 
 pub truth-said : (d : Document) → option_and_then truth (slice_get (listing d) 0) ≡ as_bool d
 truth-said null = refl

@@ -1,18 +1,9 @@
 -- A string where the input has it.
-use Rattle.std.proofs.Common.{◌≡◌, ◌∙◌, ◌≤◌, ◌<◌, ◌⊎◌, ◌+◌, ◌∷◌, ap, sym, refl, eq-eqb, ℕ, List, [], length, get_or, slice_get, Bor}
+use Rattle.std.proofs.Common.{◌≡◌, ◌∙◌, ◌≤◌, ◌<◌, ◌⊎◌, ◌+◌, ◌∷◌, ap, sym, refl, eq-eqb, ℕ, List, [], length, Bor}
 use Rattle.std.proofs.Common.{Option, Some, None, true, false}
-use Rattle.std.proofs.lemmas.Option.{get_or_from_slice_get}
 use Rattle.std.specs.Cmp.Lexicographic.{pointwise}
-use Rattle.std.specs.Option.{option_copied, option_eq}
-use Rattle.std.specs.Prelude.{◌&&◌, nat_eq, slice_range, IfSome, IsSome, MatchOption}
-
--- the entry that was read
-pub read-entry : (o : Option (Bor ℕ)) (xs : List ℕ) (at s d : ℕ) → Some s ≡ option_copied o → IfSome o (λ x. x.now ≡ get_or xs at x.now)
-    → slice_get xs at ≡ Some d → s ≡ d
-read-entry None xs at s d copied entry got = cc
-read-entry (Some y) xs at s d copied entry got =
-    let one : s ≡ y.now = cc in
-    one ∙ entry ∙ get_or_from_slice_get xs at d y.now got
+use Rattle.std.specs.Option.{option_eq}
+use Rattle.std.specs.Prelude.{◌&&◌, nat_eq, slice_range, IsSome, MatchOption}
 
 equal-bytes : (xs : List ℕ) → pointwise nat_eq xs xs ≡ true
 equal-bytes [] = refl

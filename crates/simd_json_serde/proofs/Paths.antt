@@ -1,23 +1,22 @@
 -- The way to a node, along the nodes of a document.
 use Rattle.std.proofs.Common.{◌≡◌, ◌≤◌, ◌<◌, ◌+◌, ◌-◌, ◌∙◌, ap, sym, subst, refl, true, false, arith, ℕ, zero, suc, Bool, List, [], ◌∷◌}
 use Rattle.std.proofs.Common.{◌++◌}
-use Rattle.std.proofs.Common.{map, drop, length, slice_get, Some, None, get_or}
+use Rattle.std.proofs.Common.{drop, length, slice_get, get_or, Some, None}
+use Rattle.std.proofs.lemmas.Option.{slice_get-get_or}
 use Rattle.std.specs.Prelude.{is_some, option_and_then}
-use Rattle.std.proofs.lemmas.Option.{get_or_from_slice_get, slice_get_read}
 use Rattle.std.specs.Prelude.{cond, ◌==◌, ◌||◌}
 use Rattle.std.proofs.Math.Seq.{drop-append_seam}
-use Rattle.std.proofs.lemmas.List.{append_assoc, append-nil, drop-drop, drop-map, length-append, length-drop, length-map}
+use Rattle.std.proofs.lemmas.List.{append_assoc, append-nil, drop-drop, length-append, length-drop}
 use Rattle.std.proofs.lemmas.Bool.{le-ltb, lt-ltb, false≢true, ne_eqb}
 use Rattle.simd_json_parts.specs.Document.{Document, null, boolean, integer, decimal, string, array, object}
 use Rattle.simd_json_parts.specs.Document.{Elements, no_elements, element, Members, no_members, member}
 use Rattle.simd_json_parts.specs.Listing.{listing, elements_listing, members_listing}
-use Rattle.simd_json_parts.specs.Nodes.{Item, item_of, string_item, array_item, object_item}
-use Rattle.simd_json_parts.specs.declared.node.Node.{Node}
+use Rattle.simd_json_parts.specs.Nodes.{Item, string_item, array_item, object_item}
 use Rattle.simd_json_parts.proofs.Documents.Fronts.{positive}
 use Rattle.simd_json_serde.specs.Ahead.{array_count, text}
 use Rattle.simd_json_serde.specs.Steps.{nodes_beneath}
 use Rattle.simd_json_serde.proofs.Values.{stands_beneath}
-use Rattle.simd_json_serde.specs.Paths.{AreOf, BeginAt, IsStep, way, elements_way, members_way, index_token, key_token}
+use Rattle.simd_json_serde.specs.Paths.{BeginAt, IsStep, way, elements_way, members_way, index_token, key_token}
 
 -- ---- no token
 
@@ -37,55 +36,59 @@ way-here _ depth = refl
 
 -- ---- nodes that begin with some items
 
-pub front-at : (ns : List Node) (at : ℕ) (xs ys : List Item) → BeginAt ns at (xs ++ ys) → BeginAt ns at xs
+pub front-at : (ns : List Item) (at : ℕ) (xs ys : List Item) → BeginAt ns at (xs ++ ys) → BeginAt ns at xs
 front-at ns at xs ys h = (ys ++ h.0, h.1 ∙ append_assoc xs ys h.0)
 
-pub behind-at : (ns : List Node) (at : ℕ) (xs ys : List Item) → BeginAt ns at (xs ++ ys) → BeginAt ns (at + length xs) ys
+pub behind-at : (ns : List Item) (at : ℕ) (xs ys : List Item) → BeginAt ns at (xs ++ ys) → BeginAt ns (at + length xs) ys
 behind-at ns at xs ys h = (
   h.0,
-  ap (λ k. map item_of (drop k ns)) (omega arith) ∙ ap (map item_of) (sym (drop-drop (length xs) at ns))
-      ∙ sym (drop-map item_of (length xs) (drop at ns)) ∙ ap (drop (length xs)) (h.1 ∙ append_assoc xs ys h.0)
-      ∙ drop-append_seam xs (ys ++ h.0),
+  ap (λ k. drop k ns) (omega arith) ∙ sym (drop-drop (length xs) at ns)
+      ∙ ap (drop (length xs)) (h.1 ∙ append_assoc xs ys h.0) ∙ drop-append_seam xs (ys ++ h.0),
 )
 
-first-at : (ns : List Node) (at : ℕ) (x : Item) (xs : List Item) → map item_of (drop at ns) ≡ x ∷ xs
-    → (n : Node) × (slice_get ns at ≡ Some n) × (item_of n ≡ x)
+first-at : (ns : List Item) (at : ℕ) (x : Item) (xs : List Item) → drop at ns ≡ x ∷ xs → slice_get ns at ≡ Some x
 first-at [] zero x xs h = cc
 first-at [] (suc at) x xs h = cc
-first-at (n ∷ ns) zero x xs h = (n, refl, (let e : item_of n ≡ x = cc in e))
+first-at (n ∷ ns) zero x xs h = (let e : n ≡ x = cc in ap Some e)
 first-at (n ∷ ns) (suc at) x xs h = first-at ns at x xs h
 
-pub item-at : (ns : List Node) (at : ℕ) (x : Item) (xs : List Item) → BeginAt ns at (x ∷ xs)
-    → (n : Node) × (slice_get ns at ≡ Some n) × (item_of n ≡ x)
+pub item-at : (ns : List Item) (at : ℕ) (x : Item) (xs : List Item) → BeginAt ns at (x ∷ xs) → slice_get ns at ≡ Some x
 item-at ns at x xs h = first-at ns at x (xs ++ h.0) h.1
 
 -- they are within the nodes
-pub inside-at : (ns : List Node) (at : ℕ) (d : Document) → BeginAt ns at (listing d) → at + length (listing d) ≤ length ns
+pub inside-at : (ns : List Item) (at : ℕ) (d : Document) → BeginAt ns at (listing d) → at + length (listing d) ≤ length ns
 inside-at ns at d h =
-    omega (arith, length-drop at ns, length-map (drop at ns) item_of, ap length h.1, length-append (listing d) h.0, positive d)
+    omega (arith, length-drop at ns, ap length h.1, length-append (listing d) h.0, positive d)
 
--- the node there, as it was read
-pub sized-at : (ns : List Node) (at : ℕ) (n : Node) (d : Document) → at < length ns → n ≡ get_or ns at n → BeginAt ns at (listing d)
-    → nodes_beneath (item_of n) + 1 ≡ length (listing d)
-sized-at ns at n d within read h = stands_beneath ns at d n h.0 (slice_get_read ns (length ns) at n refl within read) h.1
+-- so there is one
+pub some-at : (ns : List Item) (at : ℕ) (d : Document) → BeginAt ns at (listing d) → None ≡ slice_get ns at → ⊥
+some-at ns at d h none =
+    let e : None ≡ Some (get_or ns at (array_item 0 0)) =
+    none ∙ slice_get-get_or ns at (array_item 0 0) (omega (arith, inside-at ns at d h, positive d)) in
+    cc e
+
+-- the node there
+pub sized-at : (ns : List Item) (at : ℕ) (n : Item) (d : Document) → slice_get ns at ≡ Some n → BeginAt ns at (listing d)
+    → nodes_beneath n + 1 ≡ length (listing d)
+sized-at ns at n d got h = stands_beneath ns at d n h.0 got h.1
 
 -- ---- one element, one member further
 
 -- What is known of the elements from `at` on, up to `end`, of which the first has index i: the way through them is that
 -- through all.
-pub record ElementsFrom (ns : List Node) (end node : ℕ) (all : ℕ → List ℕ) (at i : ℕ) : Type 0 where
+pub record ElementsFrom (ns : List Item) (end node : ℕ) (all : ℕ → List ℕ) (at i : ℕ) : Type 0 where
   pub elements : Elements
   pub begin : BeginAt ns at (elements_listing elements)
   pub ends : end ≡ at + length (elements_listing elements)
   pub before : at ≤ node
   pub same : (depth : ℕ) → all depth ≡ elements_way elements i depth (node - at)
 
-pub record IsElement (ns : List Node) (node : ℕ) (all : ℕ → List ℕ) (at i : ℕ) : Type 0 where
+pub record IsElement (ns : List Item) (node : ℕ) (all : ℕ → List ℕ) (at i : ℕ) : Type 0 where
   pub document : Document
   pub begin : BeginAt ns at (listing document)
   pub same : (depth : ℕ) → all depth ≡ index_token i ++ way document depth (node - at)
 
-module _ (ns : List Node) (end node : ℕ) (all : ℕ → List ℕ) (at i next : ℕ)
+module _ (ns : List Item) (end node : ℕ) (all : ℕ → List ℕ) (at i next : ℕ)
     (behind : (d : Document) → BeginAt ns at (listing d) → next ≡ at + length (listing d)) (more : at < end) where
   element-here : (es : Elements) → BeginAt ns at (elements_listing es) → end ≡ at + length (elements_listing es) → at ≤ node
       → ((depth : ℕ) → all depth ≡ elements_way es i depth (node - at)) → node < next → IsElement ns node all at i
@@ -120,13 +123,13 @@ module _ (ns : List Node) (end node : ℕ) (all : ℕ → List ℕ) (at i next :
             ∙ ap (elements_way ds (i + 1) depth) (omega (arith, is));
       }
 
-pub element-found : (ns : List Node) (end node : ℕ) (all : ℕ → List ℕ) (at i next : ℕ)
+pub element-found : (ns : List Item) (end node : ℕ) (all : ℕ → List ℕ) (at i next : ℕ)
     → ((d : Document) → BeginAt ns at (listing d) → next ≡ at + length (listing d)) → at < end
     → ElementsFrom ns end node all at i → node < next → IsElement ns node all at i
 element-found ns end node all at i next behind more r =
     element-here ns end node all at i next behind more r.elements r.begin r.ends r.before r.same
 
-pub element-passed : (ns : List Node) (end node : ℕ) (all : ℕ → List ℕ) (at i next : ℕ)
+pub element-passed : (ns : List Item) (end node : ℕ) (all : ℕ → List ℕ) (at i next : ℕ)
     → ((d : Document) → BeginAt ns at (listing d) → next ≡ at + length (listing d)) → at < end
     → ElementsFrom ns end node all at i → next ≤ node → ElementsFrom ns end node all next (i + 1)
 element-passed ns end node all at i next behind more r =
@@ -137,28 +140,27 @@ no-element no_elements i depth node empty = refl
 no-element (element d ds) i depth node empty =
     absurd (omega (arith, empty, length-append (listing d) (elements_listing ds), positive d))
 
-pub elements-end : (ns : List Node) (end node : ℕ) (all : ℕ → List ℕ) (at i : ℕ) → ElementsFrom ns end node all at i → end ≤ at
+pub elements-end : (ns : List Item) (end node : ℕ) (all : ℕ → List ℕ) (at i : ℕ) → ElementsFrom ns end node all at i → end ≤ at
     → (depth : ℕ) → all depth ≡ []
 elements-end ns end node all at i r past depth =
     r.same depth ∙ no-element r.elements i depth (node - at) (omega (arith, r.ends, past))
 
 -- the same of members, of which the first has its key at `key`
-pub record MembersFrom (ns : List Node) (end node : ℕ) (all : ℕ → List ℕ) (key : ℕ) : Type 0 where
+pub record MembersFrom (ns : List Item) (end node : ℕ) (all : ℕ → List ℕ) (key : ℕ) : Type 0 where
   pub members : Members
   pub begin : BeginAt ns key (members_listing members)
   pub ends : end ≡ key + length (members_listing members)
   pub before : key ≤ node
   pub same : (depth : ℕ) → all depth ≡ members_way members depth (node - key)
 
-pub record IsMember (ns : List Node) (node : ℕ) (all : ℕ → List ℕ) (key : ℕ) : Type 0 where
+pub record IsMember (ns : List Item) (node : ℕ) (all : ℕ → List ℕ) (key : ℕ) : Type 0 where
   pub name : List ℕ
   pub document : Document
-  pub at : Node
-  pub is : (slice_get ns key ≡ Some at) × (item_of at ≡ string_item name)
+  pub is : slice_get ns key ≡ Some (string_item name)
   pub begin : BeginAt ns (key + 1) (listing document)
   pub same : (depth : ℕ) → all depth ≡ key_token name ++ way document depth (node - (key + 1))
 
-module _ (ns : List Node) (end node : ℕ) (all : ℕ → List ℕ) (key next : ℕ)
+module _ (ns : List Item) (end node : ℕ) (all : ℕ → List ℕ) (key next : ℕ)
     (behind : (d : Document) → BeginAt ns (key + 1) (listing d) → next ≡ key + 1 + length (listing d)) (more : key < end) where
   value-at : (k : List ℕ) (d : Document) (ms : Members) → BeginAt ns key (members_listing (member k d ms))
       → BeginAt ns (key + 1) (listing d ++ members_listing ms)
@@ -170,12 +172,10 @@ module _ (ns : List Node) (end node : ℕ) (all : ℕ → List ℕ) (key next : 
   member-here (member k d ms) begin ends before same less =
       let value = front-at ns (key + 1) (listing d) (members_listing ms) (value-at k d ms begin) in
       let inside : node - key < suc (length (listing d)) = omega (arith, less, behind d value, before) in
-      let node' = item-at ns key (string_item k) (listing d ++ members_listing ms) begin in
       record {
         name = k;
         document = d;
-        at = node'.0;
-        is = (node'.1, node'.2);
+        is = item-at ns key (string_item k) (listing d ++ members_listing ms) begin;
         begin = value;
         same = λ depth.
             same depth
@@ -203,13 +203,13 @@ module _ (ns : List Node) (end node : ℕ) (all : ℕ → List ℕ) (key next : 
             ∙ ap (members_way ms depth) (omega (arith, is));
       }
 
-pub member-found : (ns : List Node) (end node : ℕ) (all : ℕ → List ℕ) (key next : ℕ)
+pub member-found : (ns : List Item) (end node : ℕ) (all : ℕ → List ℕ) (key next : ℕ)
     → ((d : Document) → BeginAt ns (key + 1) (listing d) → next ≡ key + 1 + length (listing d)) → key < end
     → MembersFrom ns end node all key → node < next → IsMember ns node all key
 member-found ns end node all key next behind more r =
     member-here ns end node all key next behind more r.members r.begin r.ends r.before r.same
 
-pub member-passed : (ns : List Node) (end node : ℕ) (all : ℕ → List ℕ) (key next : ℕ)
+pub member-passed : (ns : List Item) (end node : ℕ) (all : ℕ → List ℕ) (key next : ℕ)
     → ((d : Document) → BeginAt ns (key + 1) (listing d) → next ≡ key + 1 + length (listing d)) → key < end
     → MembersFrom ns end node all key → next ≤ node → MembersFrom ns end node all next
 member-passed ns end node all key next behind more r =
@@ -219,14 +219,14 @@ no-member : (ms : Members) (depth node : ℕ) → length (members_listing ms) �
 no-member no_members depth node empty = refl
 no-member (member k d ms) depth node empty = absurd (omega (arith, empty))
 
-pub members-end : (ns : List Node) (end node : ℕ) (all : ℕ → List ℕ) (key : ℕ) → MembersFrom ns end node all key → end ≤ key
+pub members-end : (ns : List Item) (end node : ℕ) (all : ℕ → List ℕ) (key : ℕ) → MembersFrom ns end node all key → end ≤ key
     → (depth : ℕ) → all depth ≡ []
 members-end ns end node all key r past depth =
     r.same depth ∙ no-member r.members depth (node - key) (omega (arith, r.ends, past))
 
-pub string-there : (ns : List Node) (node : ℕ) (all : ℕ → List ℕ) (key : ℕ) (r : IsMember ns node all key)
-    → option_and_then (λ n. text (item_of n)) (slice_get ns key) ≡ Some r.name
-string-there ns node all key r = ap (option_and_then (λ n. text (item_of n))) r.is.0 ∙ ap text r.is.1
+pub string-there : (ns : List Item) (node : ℕ) (all : ℕ → List ℕ) (key : ℕ) (r : IsMember ns node all key)
+    → option_and_then text (slice_get ns key) ≡ Some r.name
+string-there ns node all key r = ap (option_and_then text) r.is
 
 -- ---- one container further
 
@@ -238,30 +238,26 @@ open-way depth m path some =
     ap (λ b. cond (b || (m == 0)) [] path) (not-zero depth) ∙ ap (λ b. cond b [] path) (ne_eqb m 0 (λ e. omega (arith, e, some)))
 
 -- an array there, and its elements
-pub record IsArrayAt (ns : List Node) (node : ℕ) (d : Document) (at : ℕ) : Type 0 where
+pub record IsArrayAt (ns : List Item) (node : ℕ) (d : Document) (at : ℕ) : Type 0 where
   pub elements : Elements
   pub begin : BeginAt ns (at + 1) (elements_listing elements)
   pub long : length (listing d) ≡ 1 + length (elements_listing elements)
   pub same : (depth : ℕ) → way d (depth + 1) (node - at) ≡ elements_way elements 0 depth (node - (at + 1))
 
-pub record IsOtherAt (ns : List Node) (node : ℕ) (d : Document) (at : ℕ) : Type 0 where
+pub record IsOtherAt (ns : List Item) (node : ℕ) (d : Document) (at : ℕ) : Type 0 where
   pub members : Members
   pub begin : BeginAt ns (at + 1) (members_listing members)
   pub long : length (listing d) ≡ 1 + length (members_listing members)
   pub same : (depth : ℕ) → way d (depth + 1) (node - at) ≡ members_way members depth (node - (at + 1))
 
-read-is : (ns : List Node) (at : ℕ) (n : Node) (x : Item) (xs : List Item) → at < length ns → n ≡ get_or ns at n → BeginAt ns at (x ∷ xs)
-    → item_of n ≡ x
-read-is ns at n x xs within read h =
-    let there = item-at ns at x xs h in
-    ap item_of (read ∙ get_or_from_slice_get ns at there.0 n there.1) ∙ there.2
+read-is : (ns : List Item) (at : ℕ) (n x : Item) (xs : List Item) → slice_get ns at ≡ Some n → BeginAt ns at (x ∷ xs) → n ≡ x
+read-is ns at n x xs got h = cc (sym got ∙ item-at ns at x xs h)
 
-module _ (ns : List Node) (node at : ℕ) (n : Node) (within : at < length ns) (read : n ≡ get_or ns at n) (before : at < node) where
-  no-array : (x : Item) (xs : List Item) → BeginAt ns at (x ∷ xs) → is_some (array_count (item_of n)) ≡ true
-      → is_some (array_count x) ≡ true
-  no-array x xs h is = ap (λ y. is_some (array_count y)) (sym (read-is ns at n x xs within read h)) ∙ is
+module _ (ns : List Item) (node at : ℕ) (n : Item) (got : slice_get ns at ≡ Some n) (before : at < node) where
+  no-array : (x : Item) (xs : List Item) → BeginAt ns at (x ∷ xs) → is_some (array_count n) ≡ true → is_some (array_count x) ≡ true
+  no-array x xs h is = ap (λ y. is_some (array_count y)) (sym (read-is ns at n x xs got h)) ∙ is
 
-  pub array-at : (d : Document) → BeginAt ns at (listing d) → is_some (array_count (item_of n)) ≡ true → IsArrayAt ns node d at
+  pub array-at : (d : Document) → BeginAt ns at (listing d) → is_some (array_count n) ≡ true → IsArrayAt ns node d at
   array-at null h is = absurd (false≢true (no-array _ [] h is))
   array-at (boolean b) h is = absurd (false≢true (no-array _ [] h is))
   array-at (integer minus m) h is = absurd (false≢true (no-array _ [] h is))
@@ -286,7 +282,7 @@ module _ (ns : List Node) (node at : ℕ) (n : Node) (within : at < length ns) (
     same = λ depth. none (depth + 1) (node - at);
   }
 
-  pub other-at : (d : Document) → BeginAt ns at (listing d) → is_some (array_count (item_of n)) ≡ false → IsOtherAt ns node d at
+  pub other-at : (d : Document) → BeginAt ns at (listing d) → is_some (array_count n) ≡ false → IsOtherAt ns node d at
   other-at null h is = scalar null _ refl (λ depth m. refl) h
   other-at (boolean b) h is = scalar (boolean b) _ refl (λ depth m. refl) h
   other-at (integer minus m) h is = scalar (integer minus m) _ refl (λ depth k. refl) h
@@ -294,7 +290,7 @@ module _ (ns : List Node) (node at : ℕ) (n : Node) (within : at < length ns) (
   other-at (string t) h is = scalar (string t) _ refl (λ depth m. refl) h
   other-at (array ds) h is =
       absurd (false≢true (sym is ∙ ap (λ y. is_some (array_count y))
-      (read-is ns at n (array_item _ _) (elements_listing ds) within read h)))
+      (read-is ns at n (array_item _ _) (elements_listing ds) got h)))
   other-at (object ms) h is = record {
     members = ms;
     begin = behind-at ns at (object_item _ _ ∷ []) (members_listing ms) h;
@@ -317,12 +313,12 @@ token-then old new token path whole appended is =
     ap (λ t. t ++ path) appended ∙ append_assoc old token path ∙ ap (λ t. old ++ t) (sym is)
 
 -- what is known of the value at `at`: the way from it, with what was appended, is that from the root
-pub record IsOnWay (ns : List Node) (node : ℕ) (whole appended : List ℕ) (at left : ℕ) : Type 0 where
+pub record IsOnWay (ns : List Item) (node : ℕ) (whole appended : List ℕ) (at left : ℕ) : Type 0 where
   pub document : Document
   pub begin : BeginAt ns at (listing document)
   pub same : appended ++ way document left (node - at) ≡ whole
 
-pub at-root : (ns : List Node) (node depth : ℕ) (d : Document) (old : List ℕ) → AreOf d ns
+pub at-root : (ns : List Item) (node depth : ℕ) (d : Document) (old : List ℕ) → ns ≡ listing d
     → IsOnWay ns node (old ++ way d depth node) old 0 (depth - 0)
 at-root ns node depth d old h = record {
   document = d;
@@ -330,7 +326,7 @@ at-root ns node depth d old h = record {
   same = ap (λ k. old ++ way d k (node - 0)) (omega arith) ∙ ap (λ m. old ++ way d depth m) (omega arith);
 }
 
-pub on-way : (ns : List Node) (node : ℕ) (whole old new : List ℕ) (at child left less : ℕ) (r : IsOnWay ns node whole old at left)
+pub on-way : (ns : List Item) (node : ℕ) (whole old new : List ℕ) (at child left less : ℕ) (r : IsOnWay ns node whole old at left)
     → IsStep ns node r.document at old new (Some child) → left ≡ less + 1 → IsOnWay ns node whole new child less
 on-way ns node whole old new at child left less r step is = record {
   document = step.0;
@@ -338,14 +334,14 @@ on-way ns node whole old new at child left less r step is = record {
   same = step.2 less ∙ ap (λ k. old ++ way r.document k (node - at)) (sym is) ∙ r.same;
 }
 
-pub ends-none : (ns : List Node) (node : ℕ) (whole appended : List ℕ) (at left : ℕ) → IsOnWay ns node whole appended at left → left ≡ 0
+pub ends-none : (ns : List Item) (node : ℕ) (whole appended : List ℕ) (at left : ℕ) → IsOnWay ns node whole appended at left → left ≡ 0
     → appended ≡ whole
 ends-none ns node whole appended at left r none =
     sym (append-nil appended) ∙ ap (λ p. appended ++ p) (sym (ap (λ n. way r.document n (node - at)) none
     ∙ way-none r.document (node - at)))
     ∙ r.same
 
-pub ends-step : (ns : List Node) (node : ℕ) (whole old new : List ℕ) (at left : ℕ) (r : IsOnWay ns node whole old at left)
+pub ends-step : (ns : List Item) (node : ℕ) (whole old new : List ℕ) (at left : ℕ) (r : IsOnWay ns node whole old at left)
     → IsStep ns node r.document at old new None → new ≡ whole
 ends-step ns node whole old new at left r step =
     step.0 ∙ sym (append-nil old) ∙ ap (λ p. old ++ p) (sym (step.1 left)) ∙ r.same

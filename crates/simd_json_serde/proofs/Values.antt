@@ -1,12 +1,11 @@
 -- The nodes of a value that stands at a place.
-use Rattle.std.proofs.Common.{◌≡◌, ℕ, suc, ◌+◌, ◌<◌, List, ◌∷◌, ◌++◌, map, drop, drop-cons, get_or, length}
+use Rattle.std.proofs.Common.{◌≡◌, ℕ, suc, ◌+◌, ◌<◌, List, ◌∷◌, ◌++◌, drop, drop-cons, get_or, length}
 use Rattle.std.proofs.Common.{slice_get, Some, sym, ap, ◌∙◌, arith, [], Result, Ok, Err, OnOk}
 use Rattle.std.proofs.lemmas.Grind.{common_steps}
 use Rattle.std.proofs.lemmas.Option.{slice_get_within, get_or_from_slice_get}
 use Rattle.simd_json_parts.specs.Document.{Document, null, boolean, integer, decimal, string, array, object}
 use Rattle.simd_json_parts.specs.Listing.{listing}
-use Rattle.simd_json_parts.specs.Nodes.{Item, item_of}
-use Rattle.simd_json_parts.specs.declared.node.Node.{Node}
+use Rattle.simd_json_parts.specs.Nodes.{Item}
 use Rattle.simd_json_serde.specs.Steps.{Place, IsNodeTaken, Opens, nodes_beneath}
 
 -- a listing's first node says how many follow it
@@ -21,26 +20,24 @@ beneath_first (array ds) i rest others h = grind (arith, common_steps)
 beneath_first (object ms) i rest others h = grind (arith, common_steps)
 
 -- the node that is next begins the value that stands there
-pub stands_beneath : (ns : List Node) (at : ℕ) (d : Document) (n : Node) (rest : List Item) → slice_get ns at ≡ Some n →
-    map item_of (drop at ns) ≡ listing d ++ rest → nodes_beneath (item_of n) + 1 ≡ length (listing d)
+pub stands_beneath : (ns : List Item) (at : ℕ) (d : Document) (n : Item) (rest : List Item) → slice_get ns at ≡ Some n →
+    drop at ns ≡ listing d ++ rest → nodes_beneath n + 1 ≡ length (listing d)
 stands_beneath ns at d n rest got h =
     let within : at < length ns = slice_get_within ns at n got in
     let read : get_or ns at n ≡ n = get_or_from_slice_get ns at n n got in
     let cut : drop at ns ≡ n ∷ drop (suc at) ns = drop-cons ns at n within ∙ ap (λ x. x ∷ drop (suc at) ns) read in
-    beneath_first d (item_of n) rest (map item_of (drop (suc at) ns)) (sym h ∙ ap (map item_of) cut)
+    beneath_first d n rest (drop (suc at) ns) (sym h ∙ cut)
 
 -- a header is taken, and its container entered
-pub opened : {E : Type 0} (r : Result Unit E) (header : ℕ → ℕ → Item) (old mid new : Place) (n : Node) (len count : ℕ)
-    → IsNodeTaken old n mid → item_of n ≡ header len count → OnOk r
+pub opened : {E : Type 0} (r : Result Unit E) (header : ℕ → ℕ → Item) (old mid new : Place) (n : Item) (len count : ℕ)
+    → IsNodeTaken old n mid → n ≡ header len count → OnOk r
     (new ≡ record mid { end = mid.at + count; outer = mid.outer ++ mid.end ∷ [] })
     → OnOk r (Opens old header new)
 opened (Ok u) header old mid new n len count taken is entered = (
-  n,
   len,
   count,
   taken.0,
-  taken.1,
-  is,
+  taken.1 ∙ ap Some is,
   entered ∙ ap (λ (m : Place). record m { end = m.at + count; outer = m.outer ++ m.end ∷ [] }) taken.2,
 )
 opened (Err e) header old mid new n len count taken is entered = tt

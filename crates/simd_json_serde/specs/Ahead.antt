@@ -8,10 +8,9 @@ use Rattle.fast_float.specs.Parse.{parse_float}
 use Rattle.simd_json_parts.specs.Document as document
 use Rattle.simd_json_parts.specs.Document.{Document}
 use Rattle.simd_json_parts.specs.Integers.{integer_node}
-use Rattle.simd_json_parts.specs.Nodes.{Item, static_item, decimal_item, string_item, array_item, object_item, item_of}
+use Rattle.simd_json_parts.specs.Nodes.{Item, static_item, decimal_item, string_item, array_item, object_item}
 use Rattle.simd_json_parts.specs.StaticNodes.{truth_of, number_in}
 use Rattle.simd_json_parts.specs.Views.{if_passes, natural_of}
-use Rattle.simd_json_parts.specs.declared.node.Node.{Node}
 use Rattle.simd_json_parts.specs.declared.node.StaticNode.{StaticNode}
 use Rattle.simd_json_parts.specs.declared.node.StaticNode.TheVariants as fixed
 use Rattle.serde.specs.declared.format.Kind.{Kind}
@@ -19,12 +18,12 @@ use Rattle.serde.specs.declared.format.Kind.TheVariants as kinds
 use Rattle.simd_json_serde.specs.Steps.{Place, BeginsBytes, nodes_beneath}
 
 -- the next node within the innermost container
-abbrev pub node_ahead : Place → Option Node
+abbrev pub node_ahead : Place → Option Item
 node_ahead p = if nat_lt p.at p.end then slice_get p.nodes p.at else None
 
 -- what it says
 abbrev pub ahead : {A : Type 0} → (Item → Option A) → Place → Option A
-ahead said p = option_and_then (λ n. said (item_of n)) (node_ahead p)
+ahead said p = option_and_then said (node_ahead p)
 
 abbrev pub truth : Item → Option Bool
 truth (static_item s) = truth_of s
@@ -37,6 +36,15 @@ integer_said _ = None
 abbrev pub text : Item → Option (List ℕ)
 text (string_item t) = Some t
 text _ = None
+
+abbrev pub literal : Item → Option (List ℕ)
+literal (decimal_item t) = Some t
+literal _ = None
+
+-- the integer of a node that holds one without a sign and of 64 bits
+abbrev pub natural : Item → Option ℕ
+natural (static_item (fixed.U64 n)) = Some n
+natural _ = None
 
 -- an integer that fits a type of so many bits
 abbrev pub signed : ℕ → Item → Option ℤ

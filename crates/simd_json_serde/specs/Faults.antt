@@ -1,6 +1,6 @@
 -- The faults of a reader.
 use Rattle.std.specs.Prelude.{◌≡◌, ◌≤◌, ◌-◌, length, vec_len, vec_capacity, if◌then◌else◌, Some, None}
-use Rattle.simd_json_parts.specs.declared.node.Node.{Node}
+use Rattle.simd_json_parts.specs.Nodes.{Item}
 use Rattle.simd_json_serde.specs.Ahead.{node_ahead}
 use Rattle.simd_json_serde.specs.Places.{place}
 use Rattle.simd_json_serde.specs.declared.error.Fault.{Fault}
@@ -23,5 +23,5 @@ IsFull r e = (e.kind ≡ OutOfMemory) × (vec_capacity r.outer ≤ vec_len r.out
 -- of the next node, or where there is none that there is none
 abbrev pub IsOfNext : NodeReader → Fault → Type 0
 IsOfNext r e =
-    ((n : Node) → node_ahead (place r) ≡ Some n → (e.node ≡ r.at) × (e.depth ≡ length r.outer.items))
+    ((n : Item) → node_ahead (place r) ≡ Some n → (e.node ≡ r.at) × (e.depth ≡ length r.outer.items))
     × (node_ahead (place r) ≡ None → e ≡ reader_fault r MissingValue)

@@ -1,9 +1,12 @@
 -- What a kept read has of its own.
-use Rattle.std.specs.Prelude.{ℕ, ◌*◌, length, min}
+use Rattle.std.specs.Prelude.{ℕ, ◌*◌, min}
 use Rattle.std.specs.Vec.{vec_capacity}
-use Rattle.simd_json_serde.specs.declared.reading.Texts.{Texts}
+use Rattle.simd_json_serde.specs.declared.reading.Kept.{Kept}
 
--- for how many bytes of input there is capacity: for as many bytes of strings and as many nodes, and for half as many
--- open containers, since each has two brackets
-abbrev pub capacity : Texts → ℕ
-capacity t = min (length t.text.items) (min (length t.starts.items) (2 * vec_capacity t.outer))
+-- for how many nodes there is capacity; a document has at most as many as bytes
+abbrev pub node_capacity : Kept → ℕ
+node_capacity k = vec_capacity k.nodes
+
+-- for how many bytes of input: for as many nodes, and for half as many open containers, since each has two brackets
+abbrev pub capacity : Kept → ℕ
+capacity k = min (node_capacity k) (2 * vec_capacity k.outer)

@@ -1,4 +1,6 @@
 pub mod Steps
+pub mod KeptNodes
+pub mod Nodes
 pub mod Places
 pub mod Paths
 pub mod Ahead

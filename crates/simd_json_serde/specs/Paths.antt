@@ -1,17 +1,12 @@
 -- The JSON Pointer (RFC 6901) of a mismatch: the way from the value that was read to the node that did not fit.
-use Rattle.std.specs.Prelude.{◌≡◌, ◌+◌, ◌-◌, ◌==◌, ◌||◌, ℕ, suc, List, [], ◌∷◌, ◌++◌, drop, flat_map, length, map, nat_lt}
+use Rattle.std.specs.Prelude.{◌≡◌, ◌+◌, ◌-◌, ◌==◌, ◌||◌, ℕ, suc, List, [], ◌∷◌, ◌++◌, drop, flat_map, length, nat_lt}
 use Rattle.std.specs.Prelude.{if◌then◌else◌, codes, decimal, encode_utf8, Option, Some, None}
 use Rattle.std.specs.Str.{chars}
 use Rattle.simd_json_parts.specs.Bytes.{slash}
 use Rattle.simd_json_parts.specs.Document.{Document, array, object, Elements, no_elements, element, Members, no_members, member}
 use Rattle.simd_json_parts.specs.Listing.{listing}
-use Rattle.simd_json_parts.specs.Nodes.{Item, item_of}
+use Rattle.simd_json_parts.specs.Nodes.{Item}
 use Rattle.simd_json_parts.specs.Pointed.{tilde}
-use Rattle.simd_json_parts.specs.declared.node.Node.{Node}
-
--- the nodes are those of the document
-abbrev pub AreOf : Document → List Node → Type 0
-AreOf d nodes = map item_of nodes ≡ listing d
 
 -- a key as a reference token (section 3): `~0` for `~`, `~1` for `/`
 abbrev pub escaped_character : ℕ → List ℕ
@@ -44,11 +39,11 @@ abbrev mutual
       else members_way ms depth (node - suc (length (listing d)))
 
 -- from this index on the nodes begin with these
-abbrev pub BeginAt : List Node → ℕ → List Item → Type 0
-BeginAt nodes at items = (rest : List Item) × (map item_of (drop at nodes) ≡ items ++ rest)
+abbrev pub BeginAt : List Item → ℕ → List Item → Type 0
+BeginAt nodes at items = (rest : List Item) × (drop at nodes ≡ items ++ rest)
 
 -- one token further, from the value d at `at` to a child that has the node, or to none
-abbrev pub IsStep : List Node → ℕ → Document → ℕ → List ℕ → List ℕ → Option ℕ → Type 0
+abbrev pub IsStep : List Item → ℕ → Document → ℕ → List ℕ → List ℕ → Option ℕ → Type 0
 IsStep nodes node d at old new None = (new ≡ old) × ((depth : ℕ) → way d depth (node - at) ≡ [])
 IsStep nodes node d at old new (Some child) =
     (e : Document) × BeginAt nodes child (listing e)

@@ -1,6 +1,6 @@
 -- The nodes that each step of a typed read takes, and what it returns for them.
 use Rattle.std.specs.Prelude.{◌≡◌, ℕ, ◌+◌, ◌^◌, ◌<◌, ◌≤◌, ◌⊎◌, ℤ, pos, List, [], ◌∷◌, ◌++◌, length, get_or}
-use Rattle.std.specs.Prelude.{map, drop, Bool, true, false, Some, slice_get, codes, decimal, encode_utf8, IsTrue}
+use Rattle.std.specs.Prelude.{drop, Bool, true, false, Some, slice_get, codes, decimal, encode_utf8, IsTrue}
 use Rattle.std.specs.Fmt.{signed_decimal}
 use Rattle.std.specs.Float.{Float, Format, binary32, binary64, float_is_finite}
 use Rattle.std.specs.Str.Parse.{IsNumeral, digits_value, signed_digits_value, without_leading_plus, without_leading_sign}
@@ -13,32 +13,35 @@ use Rattle.serde.specs.Names.{Finds}
 use Rattle.serde.specs.declared.name.Name.{Name}
 use Rattle.simd_json_parts.specs.Document.{Document}
 use Rattle.simd_json_parts.specs.Listing.{listing}
-use Rattle.simd_json_parts.specs.Nodes.{Item, static_item, decimal_item, string_item, array_item, object_item, item_of}
+use Rattle.simd_json_parts.specs.Nodes.{Item, static_item, decimal_item, string_item, array_item, object_item}
 use Rattle.simd_json_parts.specs.StaticNodes.{number_in}
-use Rattle.simd_json_parts.specs.declared.node.Node.{Node}
 use Rattle.simd_json_parts.specs.declared.node.StaticNode.TheVariants as fixed
 
 -- The place of a reader: the nodes, the index of the next one, where the innermost open container ends, where those
 -- around it do, and whether the next node is a key that is read as a value.
 pub record Place : Type 0 where
-  pub nodes : List Node
+  pub nodes : List Item
   pub at : ℕ
   pub end : ℕ
   pub outer : List ℕ
   pub at_key : Bool
 
+-- the first place in these nodes
+abbrev pub first_place : List Item → Place
+first_place items = record { nodes = items; at = 0; end = length items; outer = []; at_key = false }
+
 -- n is the next node, within the innermost container, and it is passed
-abbrev pub IsNodeTaken : Place → Node → Place → Type 0
+abbrev pub IsNodeTaken : Place → Item → Place → Type 0
 IsNodeTaken old n new =
     (old.at < old.end) × (slice_get old.nodes old.at ≡ Some n) × (new ≡ record old { at = old.at + 1; at_key = false })
 
 -- the next node is taken, and says this
 abbrev pub TakesNode : Place → (Bool → Item → Type 0) → Place → Type 0
-TakesNode old P new = (n : Node) × IsNodeTaken old n new × P old.at_key (item_of n)
+TakesNode old P new = (n : Item) × IsNodeTaken old n new × P old.at_key n
 
 -- the nodes from the next one on begin with those of the value
 abbrev pub Stands : Place → Document → Type 0
-Stands p d = (rest : List Item) × (map item_of (drop p.at p.nodes) ≡ listing d ++ rest)
+Stands p d = (rest : List Item) × (drop p.at p.nodes ≡ listing d ++ rest)
 
 abbrev pub nodes_beneath : Item → ℕ
 nodes_beneath (static_item s) = 0
@@ -94,20 +97,19 @@ Closes old new =
 -- the header of a container is taken, and the container entered
 abbrev pub Opens : Place → (ℕ → ℕ → Item) → Place → Type 0
 Opens old header new =
-    (n : Node) × (len count : ℕ) × (old.at < old.end) × (slice_get old.nodes old.at ≡ Some n) × (item_of n ≡ header len count)
+    (len count : ℕ) × (old.at < old.end) × (slice_get old.nodes old.at ≡ Some (header len count))
     × (new ≡ record { nodes = old.nodes; at = old.at + 1; end = old.at + 1 + count; outer = old.outer ++ old.end ∷ []; at_key = false })
 
 -- the nodes from an index on are the integers that these bytes are
-abbrev pub AreBytesAt : List Node → ℕ → List ℕ → Type 0
+abbrev pub AreBytesAt : List Item → ℕ → List ℕ → Type 0
 AreBytesAt nodes at bs =
     (k : ℕ) → k < length bs
-    → (get_or bs k 0 < 2 ^ 8) × ((n : Node) × (slice_get nodes (at + k) ≡ Some n) × IsUnsigned (get_or bs k 0) false (item_of n))
+    → (get_or bs k 0 < 2 ^ 8) × ((n : Item) × (slice_get nodes (at + k) ≡ Some n) × IsUnsigned (get_or bs k 0) false n)
 
 -- the next node begins an array of these bytes
 abbrev pub BeginsBytes : Place → List ℕ → Type 0
 BeginsBytes p bs =
-    (n : Node) × (len : ℕ) × (p.at < p.end) × (slice_get p.nodes p.at ≡ Some n) × (item_of n ≡ array_item len (length bs))
-    × AreBytesAt p.nodes (p.at + 1) bs
+    (len : ℕ) × (p.at < p.end) × (slice_get p.nodes p.at ≡ Some (array_item len (length bs))) × AreBytesAt p.nodes (p.at + 1) bs
 
 abbrev pub TakesBytes : Place → List ℕ → Place → Type 0
 TakesBytes old bs new = BeginsBytes old bs × (new ≡ record old { at = old.at + 1 + length bs; at_key = false })

@@ -2,8 +2,9 @@
 ghost use Rattle.std.specs.Prelude.{◌≡◌, ◌⊎◌, ◌↔◌, IsTrue};
 ghost use Rattle.simd_json_serde.specs.Words.{found_words, wanted_words};
 
+use crate::nodes::Nodes;
 use crate::path::append_path;
-use simd_json::{Node, ValueType};
+use simd_json::ValueType;
 use std::alloc::Global;
 use std::fmt;
 use std::fmt::InlineText;
@@ -97,14 +98,20 @@ impl Mismatch {
     ghost use Rattle.simd_json_parts.specs.Document.{Document};
     ghost use Rattle.simd_json_serde.specs.Messages.{path_of, given_name, mismatch_reason};
     ghost use Rattle.simd_json_serde.specs.Outcomes.{HasPath};
-    ghost use Rattle.simd_json_serde.specs.Paths.{AreOf};
+    ghost use Rattle.simd_json_parts.specs.Listing.{listing};
+    ghost use Rattle.simd_json_serde.specs.Nodes.{items_of};
 
     // Of the value around a node, with the name that the reader kept last, if the fault has one.
     // The path is built only now: nothing is kept for it during a read.
     #[cold]
-    pub(crate) fn new(alloc: Global, fault: Fault, name: FaultName, nodes: &[Node<'_>]) -> Mismatch
+    pub(crate) fn new(
+        alloc: Global,
+        fault: Fault,
+        name: FaultName,
+        nodes: Nodes<'_, '_>,
+    ) -> Mismatch
         ensures fault { (result.fault ≡ fault) ⊎ (result.fault.kind ≡ MismatchKind.OutOfMemory) }
-        ensures path { (d : Document) → AreOf d nodes.now → HasPath d result }
+        ensures path { (d : Document) → items_of nodes.entry ≡ listing d → HasPath d result }
     {
         let mut path = String::new(alloc);
         if fault.is_memory() || append_path(nodes, &fault, &mut path).is_err() {

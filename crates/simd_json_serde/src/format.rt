@@ -18,8 +18,8 @@ ghost use Rattle.simd_json_serde.specs.Faults.{reader_fault, length_fault, IsFul
 ghost use Rattle.simd_json_serde.specs.Places.{place, LiesAhead};
 ghost use Rattle.simd_json_parts.specs.Document.{Document};
 ghost use Rattle.simd_json_parts.specs.Listing.{listing};
-ghost use Rattle.simd_json_parts.specs.Nodes.{item_of};
-ghost use Rattle.simd_json_parts.specs.declared.node.Node.{Node as SpecNode};
+ghost use Rattle.simd_json_parts.specs.Nodes.{Item, item_of};
+ghost use Rattle.simd_json_serde.specs.Nodes.{items_of};
 ghost use Rattle.simd_json_serde.specs.declared.node_reader.NodeReader.{NodeReader as SpecReader};
 ghost use Rattle.simd_json_serde.specs.Steps.{ReadsAs, PicksName, Stands, nodes_beneath};
 ghost use Rattle.simd_json_serde.specs.Steps.{AreBytesAt, Closes};
@@ -90,17 +90,12 @@ impl<'n, 'i> Format for NodeReader<'n, 'i> {
             → result_ok result ≡ ahead (unsigned 64) (place self.old) }
         ensures place { IfErr result (IsOfNext self.old) }
     {
-        let at_key = self.at_key;
-        match self.take()? {
-            Node::Static(StaticNode::U64(n)) => Ok(n),
-            Node::Static(StaticNode::I64(n)) => self.fitting(u64::try_from(n).ok()),
-            Node::Static(StaticNode::I128(n)) => self.fitting(u64::try_from(n).ok()),
-            Node::Static(StaticNode::U128(n)) => self.fitting(u64::try_from(n).ok()),
-            Node::String(key) if at_key && is_integer_key(key) => match key.parse::<u64>() {
-                Ok(n) => Ok(n),
-                Err(_) => Err(self.fault(MismatchKind::InvalidValue)),
-            },
-            other => Err(self.unexpected(ValueType::U64, other)),
+        match self.nodes.natural(self.at) {
+            Some(n) if self.at < self.end => {
+                self.pass();
+                Ok(n)
+            }
+            _ => self.other_u64(),
         }
     }
 
@@ -168,19 +163,12 @@ impl<'n, 'i> Format for NodeReader<'n, 'i> {
         ensures exact { result_ok result ≡ ahead (float binary64) (place self.old) }
         ensures place { IfErr result (IsOfNext self.old) }
     {
-        match self.take()? {
-            Node::Decimal(literal) => self.nearest_f64(literal),
-            Node::Static(StaticNode::I64(n)) => Ok(nearest_i64_to_f64(n)),
-            Node::Static(StaticNode::U64(n)) => Ok(nearest_u64_to_f64(n)),
-            Node::Static(StaticNode::I128(n)) => {
-                let mut digits = itoa::Buffer::new();
-                self.nearest_f64(digits.format(n))
+        match self.nodes.literal(self.at) {
+            Some(literal) if self.at < self.end => {
+                self.pass();
+                self.nearest_f64(literal)
             }
-            Node::Static(StaticNode::U128(n)) => {
-                let mut digits = itoa::Buffer::new();
-                self.nearest_f64(digits.format(n))
-            }
-            other => Err(self.unexpected(ValueType::Decimal, other)),
+            _ => self.other_f64(),
         }
     }
 
@@ -206,12 +194,11 @@ impl<'n, 'i> Format for NodeReader<'n, 'i> {
         ensures err { OnErr result (LiesAhead self.old input.now → ⊥) }
         ensures place { IfErr result (IsOfNext self.old) }
     {
-        let start = self.starts.get(self.at).copied();
+        let start = self.nodes.start(self.at);
         let text = self.take_string()?;
         let Some(start) = start else {
             return Err(self.fault(MismatchKind::InvalidValue));
         };
-        let start = start as usize;
         let end = start.saturating_add(text.len());
         if input.get(start..end) == Some(text.as_bytes()) {
             Ok((start, end))
@@ -416,10 +403,10 @@ impl<'n, 'i> Format for NodeReader<'n, 'i> {
     // A container's members are passed in one step.
     #[inline(always)]
     fn skip(&mut self, _input: &[u8]) -> Result<(), Fault>
-        ensures passed { OnOk result ((n : SpecNode)
-            × (slice_get self.old.nodes.now self.old.at ≡ Some n)
+        ensures passed { OnOk result ((item : Item)
+            × (slice_get (items_of self.old.nodes) self.old.at ≡ Some item)
             × (place self.new ≡ record (place self.old) {
-              at = self.old.at + 1 + nodes_beneath (item_of n);
+              at = self.old.at + 1 + nodes_beneath item;
               at_key = false;
             })) }
         ensures value { OnOk result ((d : Document) → Stands (place self.old) d
@@ -538,18 +525,66 @@ impl<'n, 'i> Format for NodeReader<'n, 'i> {
 }
 
 impl<'n, 'i> NodeReader<'n, 'i> {
+    // As `u64`, of any node. Most integers are without a sign and of 64 bits, so it is out of line.
+    #[cold]
+    #[inline(never)]
+    fn other_u64(&mut self) -> Result<u64, Fault>
+        ensures given { IfOk result
+            (λ v. ReadsAs (place self.old) (unsigned_event v) (place self.new)) }
+        ensures exact { self.old.at_key ≡ false
+            → result_ok result ≡ ahead (unsigned 64) (place self.old) }
+        ensures place { IfErr result (IsOfNext self.old) }
+    {
+        let at_key = self.at_key;
+        match self.take()? {
+            Node::Static(StaticNode::U64(n)) => Ok(n),
+            Node::Static(StaticNode::I64(n)) => self.fitting(u64::try_from(n).ok()),
+            Node::Static(StaticNode::I128(n)) => self.fitting(u64::try_from(n).ok()),
+            Node::Static(StaticNode::U128(n)) => self.fitting(u64::try_from(n).ok()),
+            Node::String(key) if at_key && is_integer_key(key) => match key.parse::<u64>() {
+                Ok(n) => Ok(n),
+                Err(_) => Err(self.fault(MismatchKind::InvalidValue)),
+            },
+            other => Err(self.unexpected(ValueType::U64, other)),
+        }
+    }
+
+    // As `f64`, of any node. Most floats are decimals, so it is out of line.
+    #[cold]
+    #[inline(never)]
+    fn other_f64(&mut self) -> Result<f64, Fault>
+        ensures given { IfOk result (λ v. ReadsAs (place self.old) (double v) (place self.new)) }
+        ensures exact { result_ok result ≡ ahead (float binary64) (place self.old) }
+        ensures place { IfErr result (IsOfNext self.old) }
+    {
+        match self.take()? {
+            Node::Decimal(literal) => self.nearest_f64(literal),
+            Node::Static(StaticNode::I64(n)) => Ok(nearest_i64_to_f64(n)),
+            Node::Static(StaticNode::U64(n)) => Ok(nearest_u64_to_f64(n)),
+            Node::Static(StaticNode::I128(n)) => {
+                let mut digits = itoa::Buffer::new();
+                self.nearest_f64(digits.format(n))
+            }
+            Node::Static(StaticNode::U128(n)) => {
+                let mut digits = itoa::Buffer::new();
+                self.nearest_f64(digits.format(n))
+            }
+            other => Err(self.unexpected(ValueType::Decimal, other)),
+        }
+    }
+
     // The integers of the array that is open, as bytes.
     fn bytes_inside(&mut self, alloc: Global, input: &[u8]) -> Result<Vec<u8>, Fault>
         requires at { self.old.at ≤ self.old.end }
         requires value { self.old.at_key ≡ false }
         requires open { self.old.outer.items ≢ [] }
-        ensures given { IfOk result (λ v. AreBytesAt self.old.nodes.now self.old.at v.items
+        ensures given { IfOk result (λ v. AreBytesAt (items_of self.old.nodes) self.old.at v.items
             × (self.old.at + length v.items ≡ self.old.end)) }
         ensures closed { OnOk result
             (Closes (record (place self.old) { at = self.old.end }) (place self.new)) }
         ensures err { IfErr result (λ e. (bytes : List ℕ)
             → self.old.at + length bytes ≡ self.old.end
-            → AreBytesAt self.old.nodes.now self.old.at bytes
+            → AreBytesAt (items_of self.old.nodes) self.old.at bytes
             → e.kind ≡ MismatchKind.OutOfMemory) }
     {
         let mut bytes = Vec::new(alloc);

@@ -1,15 +1,17 @@
 //! A place in the nodes of a document.
-ghost use Rattle.std.specs.Prelude.{◌≡◌, ◌+◌, ◌<◌, false, [], ◌∷◌, ◌++◌, length, slice_get};
+ghost use Rattle.std.specs.Prelude.{◌≡◌, ◌+◌, ◌<◌, false, [], ◌∷◌, ◌++◌, map, slice_get, Some};
 ghost use Rattle.std.specs.Prelude.{◌^◌, IfOk, IfErr, OnOk, OnErr, option_map};
 ghost use Rattle.std.specs.Result.{result_ok};
 ghost use Rattle.simd_json_parts.specs.Nodes.{item_of, string_item};
 ghost use Rattle.simd_json_parts.specs.NodeTypes.{item_type};
-ghost use Rattle.simd_json_serde.specs.Steps.{IsNodeTaken, TakesNode, nodes_beneath};
+ghost use Rattle.simd_json_serde.specs.Nodes.{items_of};
+ghost use Rattle.simd_json_serde.specs.Steps.{IsNodeTaken, TakesNode, first_place, nodes_beneath};
 ghost use Rattle.simd_json_serde.specs.Places.{place};
 ghost use Rattle.simd_json_serde.specs.Ahead.{ahead, node_ahead, text};
 ghost use Rattle.simd_json_serde.specs.Faults.{reader_fault, IsFull, IsOfNext};
 
 use crate::error::{Fault, FaultName, MismatchKind};
+use crate::nodes::Nodes;
 use simd_json::{Node, ValueType};
 use std::cell::Cell;
 
@@ -18,9 +20,7 @@ use std::cell::Cell;
 /// Each step takes the next node, and returns what it says; `skip` passes a whole value.
 #[derive(Drop)]
 pub struct NodeReader<'n, 'i> {
-    pub(crate) nodes: &'n [Node<'i>],
-    // Where the string of each node starts in the input of the `Deserializer`, if types may borrow.
-    pub(crate) starts: &'n [u32],
+    pub(crate) nodes: Nodes<'n, 'i>,
     pub(crate) at: usize,
     // Where the innermost open container ends, and where those around it do.
     pub(crate) end: usize,
@@ -46,36 +46,19 @@ impl<'n, 'i> NodeReader<'n, 'i> {
     /// Begins at the first node. The list is used for the containers that are open: what it holds
     /// does not matter.
     pub fn new(nodes: &'n [Node<'i>], outer: Vec<usize>) -> NodeReader<'n, 'i>
-        ensures { place result ≡ record {
-          nodes = nodes.now;
-          at = 0;
-          end = length nodes.now;
-          outer = [];
-          at_key = false;
-        } }
+        ensures { place result ≡ first_place (map item_of nodes.now) }
     {
-        NodeReader::with_starts(nodes, &[], outer)
+        NodeReader::of(Nodes::Listed(nodes), outer)
     }
 
-    // The same, for types that borrow: `starts` says where the string of each node starts in the
-    // input of the `Deserializer`.
-    pub(crate) fn with_starts(
-        nodes: &'n [Node<'i>],
-        starts: &'n [u32],
-        mut outer: Vec<usize>,
-    ) -> NodeReader<'n, 'i>
-        ensures { place result ≡ record {
-          nodes = nodes.now;
-          at = 0;
-          end = length nodes.now;
-          outer = [];
-          at_key = false;
-        } }
+    // The same of other nodes.
+    pub(crate) fn of(nodes: Nodes<'n, 'i>, mut outer: Vec<usize>) -> NodeReader<'n, 'i>
+        ensures place { place result ≡ first_place (items_of nodes.entry) }
+        ensures nodes { result.nodes ≡ nodes.entry }
     {
         outer.clear();
         NodeReader {
             nodes,
-            starts,
             at: 0,
             end: nodes.len(),
             outer,
@@ -139,12 +122,12 @@ impl<'n, 'i> NodeReader<'n, 'i> {
     #[inline(always)]
     pub(crate) fn look(&self) -> Result<Node<'i>, Fault>
         ensures taken { IfOk result (λ n. (self.now.at < self.now.end)
-            × (slice_get self.now.nodes.now self.now.at ≡ Some n)) }
-        ensures exact { result_ok result ≡ node_ahead (place self.now) }
+            × (slice_get (items_of self.now.nodes) self.now.at ≡ Some (item_of n))) }
+        ensures exact { option_map item_of (result_ok result) ≡ node_ahead (place self.now) }
         ensures none { IfErr result (λ e. e ≡ reader_fault self.now MismatchKind.MissingValue) }
     {
         match self.nodes.get(self.at) {
-            Some(node) if self.at < self.end => Ok(*node),
+            Some(node) if self.at < self.end => Ok(node),
             _ => Err(self.fault(MismatchKind::MissingValue)),
         }
     }
@@ -152,17 +135,32 @@ impl<'n, 'i> NodeReader<'n, 'i> {
     // The next node, which is passed.
     #[inline(always)]
     pub(crate) fn take(&mut self) -> Result<Node<'i>, Fault>
-        ensures taken { IfOk result (λ n. IsNodeTaken (place self.old) n (place self.new)) }
-        ensures exact { result_ok result ≡ node_ahead (place self.old) }
+        ensures taken { IfOk result
+            (λ n. IsNodeTaken (place self.old) (item_of n) (place self.new)) }
+        ensures exact { option_map item_of (result_ok result) ≡ node_ahead (place self.old) }
         ensures kept { self.new.outer ≡ self.old.outer }
         ensures fresh { OnOk result (self.new.looked ≡ false) }
         ensures none { IfErr result (λ e. e ≡ reader_fault self.old MismatchKind.MissingValue) }
     {
         let node = self.look()?;
+        self.pass();
+        Ok(node)
+    }
+
+    // Passes the next node.
+    #[inline(always)]
+    pub(crate) fn pass(&mut self)
+        requires { self.old.at < self.old.end }
+        ensures place { place self.new ≡ record (place self.old) {
+          at = self.old.at + 1;
+          at_key = false;
+        } }
+        ensures kept { self.new.outer ≡ self.old.outer }
+        ensures fresh { self.new.looked ≡ false }
+    {
         self.at += 1;
         self.at_key = false;
         self.looked = false;
-        Ok(node)
     }
 
     #[inline(always)]
@@ -175,9 +173,25 @@ impl<'n, 'i> NodeReader<'n, 'i> {
         ensures fresh { OnOk result (self.new.looked ≡ false) }
         ensures kept { self.new.outer ≡ self.old.outer }
     {
-        match self.take()? {
-            Node::String(text) => Ok(text),
-            other => Err(self.unexpected(ValueType::String, other)),
+        match self.nodes.string(self.at) {
+            Some(text) if self.at < self.end => {
+                self.pass();
+                Ok(text)
+            }
+            _ => Err(self.no_string()),
+        }
+    }
+
+    // That the next node is no string, or that there is none.
+    #[cold]
+    #[inline(never)]
+    fn no_string(&mut self) -> Fault
+        ensures place { IsOfNext self.old result }
+        ensures kept { self.new.outer ≡ self.old.outer }
+    {
+        match self.take() {
+            Ok(other) => self.unexpected(ValueType::String, other),
+            Err(fault) => fault,
         }
     }
 

@@ -6,22 +6,24 @@ ghost use Rattle.simd_json_parts.specs.Document.{Document, Elements, Members};
 ghost use Rattle.simd_json_parts.specs.Listing.{elements_listing, listing, members_listing};
 ghost use Rattle.simd_json_parts.specs.Nodes.{item_of};
 ghost use Rattle.simd_json_serde.specs.Ahead.{array_count, text};
-ghost use Rattle.simd_json_serde.specs.Paths.{AreOf, BeginAt, IsStep, elements_way};
+ghost use Rattle.simd_json_serde.specs.Nodes.{items_of};
+ghost use Rattle.simd_json_serde.specs.Paths.{BeginAt, IsStep, elements_way};
 ghost use Rattle.simd_json_serde.specs.Paths.{escaped_character, index_token, key_token};
 ghost use Rattle.simd_json_serde.specs.Paths.{members_way, way};
 
 use crate::error::Fault;
 use crate::node_reader::beneath;
+use crate::nodes::Nodes;
 use simd_json::Node;
 use std::alloc::AllocError;
 
 // Appends the pointer to the node of a fault.
 pub(crate) fn append_path(
-    nodes: &[Node<'_>],
+    nodes: Nodes<'_, '_>,
     fault: &Fault,
     path: &mut String,
 ) -> Result<(), AllocError>
-    ensures { OnOk result ((d : Document) → AreOf d nodes.now → string_bytes path.new
+    ensures { OnOk result ((d : Document) → items_of nodes.entry ≡ listing d → string_bytes path.new
         ≡ string_bytes path.old ++ way d fault.now.depth fault.now.node) }
 {
     let mut at = 0;
@@ -37,13 +39,13 @@ pub(crate) fn append_path(
 // Appends the reference token of the child that has a node, and returns its first node. Returns
 // `None` where the value at `at` has no such child.
 fn append_token(
-    nodes: &[Node<'_>],
+    nodes: Nodes<'_, '_>,
     at: usize,
     node: usize,
     path: &mut String,
 ) -> Result<Option<usize>, AllocError>
-    ensures { IfOk result (λ child. (d : Document) → BeginAt nodes.now at (listing d)
-        → IsStep nodes.now node d at (string_bytes path.old) (string_bytes path.new) child) }
+    ensures { IfOk result (λ child. (d : Document) → BeginAt (items_of nodes.entry) at (listing d)
+        → IsStep (items_of nodes.entry) node d at (string_bytes path.old) (string_bytes path.new) child) }
 {
     if at >= node {
         return Ok(None);
@@ -52,7 +54,7 @@ fn append_token(
         return Ok(None);
     };
     let end = after(nodes, at);
-    if is_array(value) {
+    if is_array(&value) {
         let Some((index, element)) = element_around(nodes, at + 1, end, node) else {
             return Ok(None);
         };
@@ -74,15 +76,15 @@ fn is_array(node: &Node<'_>) -> bool
 
 // The element that has a node, of those from `first` to `end`: its index, and its first node.
 fn element_around(
-    nodes: &[Node<'_>],
+    nodes: Nodes<'_, '_>,
     first: usize,
     end: usize,
     node: usize,
 ) -> Option<(usize, usize)>
-    ensures { (ds : Elements) → BeginAt nodes.now first (elements_listing ds)
+    ensures { (ds : Elements) → BeginAt (items_of nodes.entry) first (elements_listing ds)
         → end ≡ first + length (elements_listing ds) → first ≤ node
         → MatchOption result ((depth : ℕ) → elements_way ds 0 depth (node - first) ≡ [])
-        (λ r. (d : Document) × BeginAt nodes.now r.1 (listing d)
+        (λ r. (d : Document) × BeginAt (items_of nodes.entry) r.1 (listing d)
         × ((depth : ℕ) → elements_way ds 0 depth (node - first)
         ≡ index_token r.0 ++ way d depth (node - r.1))) }
 {
@@ -102,15 +104,15 @@ fn element_around(
 // The member that has a node, of those from `first` to `end`: its key, and the first node of its
 // value.
 fn member_around<'i>(
-    nodes: &[Node<'i>],
+    nodes: Nodes<'_, 'i>,
     first: usize,
     end: usize,
     node: usize,
 ) -> Option<(&'i str, usize)>
-    ensures { (ms : Members) → BeginAt nodes.now first (members_listing ms)
+    ensures { (ms : Members) → BeginAt (items_of nodes.entry) first (members_listing ms)
         → end ≡ first + length (members_listing ms) → first ≤ node
         → MatchOption result ((depth : ℕ) → members_way ms depth (node - first) ≡ [])
-        (λ r. (d : Document) × BeginAt nodes.now r.1 (listing d)
+        (λ r. (d : Document) × BeginAt (items_of nodes.entry) r.1 (listing d)
         × ((depth : ℕ) → members_way ms depth (node - first)
         ≡ key_token r.0.now ++ way d depth (node - r.1))) }
 {
@@ -128,9 +130,9 @@ fn member_around<'i>(
     None
 }
 
-fn string_at<'i>(nodes: &[Node<'i>], at: usize) -> Option<&'i str>
+fn string_at<'i>(nodes: Nodes<'_, 'i>, at: usize) -> Option<&'i str>
     ensures { option_map (λ s. s.now) result
-        ≡ option_and_then (λ n. text (item_of n)) (slice_get nodes.now at) }
+        ≡ option_and_then text (slice_get (items_of nodes.entry) at) }
 {
     match nodes.get(at) {
         Some(Node::String(text)) => Some(text),
@@ -139,8 +141,8 @@ fn string_at<'i>(nodes: &[Node<'i>], at: usize) -> Option<&'i str>
 }
 
 // The node after a value.
-fn after(nodes: &[Node<'_>], at: usize) -> usize
-    ensures value { (d : Document) → BeginAt nodes.now at (listing d)
+fn after(nodes: Nodes<'_, '_>, at: usize) -> usize
+    ensures value { (d : Document) → BeginAt (items_of nodes.entry) at (listing d)
         → result ≡ at + length (listing d) }
     ensures further { at < 2 ^ 64 - 1 → at < result }
     ensures later { at ≤ result }
@@ -148,7 +150,7 @@ fn after(nodes: &[Node<'_>], at: usize) -> usize
     let Some(node) = nodes.get(at) else {
         return at.saturating_add(1);
     };
-    let beneath = beneath(node);
+    let beneath = beneath(&node);
     if beneath >= nodes.len().saturating_sub(at) {
         return at.saturating_add(1);
     }

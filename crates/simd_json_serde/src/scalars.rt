@@ -23,7 +23,7 @@ pub fn bool_of(alloc: Global, value: &Value<'_, '_>) -> Result<bool, Error>
 {
     let mut reader = NodeReader::new(value.nodes(), Vec::new(alloc));
     let read = reader.bool(&[]);
-    located(alloc, read, value.nodes(), reader.last_name())
+    located(alloc, read, reader.nodes, reader.last_name())
 }
 
 /// Returns a string of one character, as [`from_value`](crate::from_value) does.
@@ -34,7 +34,7 @@ pub fn char_of(alloc: Global, value: &Value<'_, '_>) -> Result<char, Error>
 {
     let mut reader = NodeReader::new(value.nodes(), Vec::new(alloc));
     let read = reader.char(&[]);
-    located(alloc, read, value.nodes(), reader.last_name())
+    located(alloc, read, reader.nodes, reader.last_name())
 }
 
 /// Returns an integer that fits `i8`, as [`from_value`](crate::from_value) does.
@@ -67,7 +67,7 @@ pub fn i64_of(alloc: Global, value: &Value<'_, '_>) -> Result<i64, Error>
 {
     let mut reader = NodeReader::new(value.nodes(), Vec::new(alloc));
     let read = reader.i64(&[]);
-    located(alloc, read, value.nodes(), reader.last_name())
+    located(alloc, read, reader.nodes, reader.last_name())
 }
 
 /// Returns an integer that fits `u8`, as [`from_value`](crate::from_value) does.
@@ -100,7 +100,7 @@ pub fn u64_of(alloc: Global, value: &Value<'_, '_>) -> Result<u64, Error>
 {
     let mut reader = NodeReader::new(value.nodes(), Vec::new(alloc));
     let read = reader.u64(&[]);
-    located(alloc, read, value.nodes(), reader.last_name())
+    located(alloc, read, reader.nodes, reader.last_name())
 }
 
 /// Returns an integer that fits `i128`, as [`from_value`](crate::from_value) does.
@@ -109,7 +109,7 @@ pub fn i128_of(alloc: Global, value: &Value<'_, '_>) -> Result<i128, Error>
 {
     let mut reader = NodeReader::new(value.nodes(), Vec::new(alloc));
     let read = reader.i128(&[]);
-    located(alloc, read, value.nodes(), reader.last_name())
+    located(alloc, read, reader.nodes, reader.last_name())
 }
 
 /// Returns an integer that fits `u128`, as [`from_value`](crate::from_value) does.
@@ -118,7 +118,7 @@ pub fn u128_of(alloc: Global, value: &Value<'_, '_>) -> Result<u128, Error>
 {
     let mut reader = NodeReader::new(value.nodes(), Vec::new(alloc));
     let read = reader.u128(&[]);
-    located(alloc, read, value.nodes(), reader.last_name())
+    located(alloc, read, reader.nodes, reader.last_name())
 }
 
 /// Returns the `f32` nearest to a number, if it is finite, as [`from_value`](crate::from_value)
@@ -128,7 +128,7 @@ pub fn f32_of(alloc: Global, value: &Value<'_, '_>) -> Result<f32, Error>
 {
     let mut reader = NodeReader::new(value.nodes(), Vec::new(alloc));
     let read = reader.f32(&[]);
-    located(alloc, read, value.nodes(), reader.last_name())
+    located(alloc, read, reader.nodes, reader.last_name())
 }
 
 /// Returns the `f64` nearest to a number, if it is finite, as [`from_value`](crate::from_value)
@@ -138,7 +138,7 @@ pub fn f64_of(alloc: Global, value: &Value<'_, '_>) -> Result<f64, Error>
 {
     let mut reader = NodeReader::new(value.nodes(), Vec::new(alloc));
     let read = reader.f64(&[]);
-    located(alloc, read, value.nodes(), reader.last_name())
+    located(alloc, read, reader.nodes, reader.last_name())
 }
 
 /// Returns a copy of a string, as [`from_value`](crate::from_value) does.
@@ -148,5 +148,5 @@ pub fn string_of(alloc: Global, value: &Value<'_, '_>) -> Result<String, Error>
 {
     let mut reader = NodeReader::new(value.nodes(), Vec::new(alloc));
     let read = reader.string(alloc, &[]);
-    located(alloc, read, value.nodes(), reader.last_name())
+    located(alloc, read, reader.nodes, reader.last_name())
 }

@@ -21,8 +21,8 @@ mod tests;
 
 use forms::{Line, Map, Sum, Timeline};
 use serde::{Deserialize, DeserializeOwned};
-use simd_json::{Buffers, Tape};
-use simd_json_serde::{Error, Texts};
+use simd_json::Buffers;
+use simd_json_serde::{Error, Kept};
 use std::alloc::Global;
 
 // Returned where a text is not read.
@@ -98,13 +98,11 @@ fn owned<T: DeserializeOwned + Sum>(
     len: usize,
 ) -> Option<u64> {
     let mut buffers = Buffers::new(alloc, len).ok()?;
-    let mut strings = Texts::new(alloc);
-    let mut kept = Tape::empty(alloc);
+    let mut kept = Kept::new(alloc);
     let mut sum = 0u64;
     for slot in texts.chunks_exact_mut(stride.max(1)) {
         let text = slot.get_mut(..len)?;
-        let (read, tape) = simd_json_serde::read_owned::<T>(text, &mut buffers, kept, &mut strings);
-        kept = tape;
+        let read = simd_json_serde::read_owned::<T>(text, &mut buffers, &mut kept);
         sum = sum.wrapping_add(read.ok()?.sum());
     }
     Some(sum)
@@ -112,41 +110,31 @@ fn owned<T: DeserializeOwned + Sum>(
 
 fn borrowed(alloc: Global, texts: &mut [u8], stride: usize, len: usize, form: u32) -> Option<u64> {
     let mut buffers = Buffers::new(alloc, len).ok()?;
-    let mut strings = Texts::new(alloc);
-    let mut kept = Tape::empty(alloc);
+    let mut kept = Kept::new(alloc);
     let mut sum = 0u64;
     for slot in texts.chunks_exact_mut(stride.max(1)) {
         let text = slot.get_mut(..len)?;
-        let (read, tape) = borrowed_one(form, text, &mut buffers, kept, &mut strings);
-        kept = tape;
-        sum = sum.wrapping_add(read?);
+        sum = sum.wrapping_add(borrowed_one(form, text, &mut buffers, &mut kept)?);
     }
     Some(sum)
 }
 
 // What is borrowed lives until the next text.
-fn borrowed_one<'k>(
+fn borrowed_one(
     form: u32,
     text: &mut [u8],
     buffers: &mut Buffers<Global>,
-    kept: Tape<'k, Global>,
-    strings: &mut Texts,
-) -> (Option<u64>, Tape<'k, Global>) {
+    kept: &mut Kept,
+) -> Option<u64> {
     match form {
-        0 => summed(simd_json_serde::read::<Line<&str>>(text, buffers, kept, strings)),
-        1 => summed(simd_json_serde::read::<Timeline<&str>>(text, buffers, kept, strings)),
-        _ => summed(simd_json_serde::read::<Map>(text, buffers, kept, strings)),
+        0 => summed(simd_json_serde::read::<Line<&str>>(text, buffers, kept)),
+        1 => summed(simd_json_serde::read::<Timeline<&str>>(text, buffers, kept)),
+        _ => summed(simd_json_serde::read::<Map>(text, buffers, kept)),
     }
 }
 
-fn summed<'k, T: Sum>(
-    read: (Result<T, Error>, Tape<'k, Global>),
-) -> (Option<u64>, Tape<'k, Global>) {
-    let (read, tape) = read;
-    match read {
-        Ok(value) => (Some(value.sum()), tape),
-        Err(_) => (None, tape),
-    }
+fn summed<T: Sum>(read: Result<T, Error>) -> Option<u64> {
+    Some(read.ok()?.sum())
 }
 
 fn by_serde_json<'de, T: Deserialize<'de> + Sum>(

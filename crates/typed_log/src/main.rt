@@ -6,8 +6,8 @@
 
 use anyhow::Result;
 use serde::Deserialize;
-use simd_json::{Buffers, Tape, reserve};
-use simd_json_serde::{Texts, read};
+use simd_json::Buffers;
+use simd_json_serde::{Kept, read};
 use std::io;
 use std::io::{BufRead, BufReader, BufWriter, Read, Write};
 
@@ -34,10 +34,9 @@ fn main(rt: HostRuntime) -> Result<()> {
 fn report(rt: &HostRuntime, log: &mut impl BufRead, output: &mut impl Write) -> Result<()> {
     let mut line = Vec::with_capacity(rt.alloc(), LONGEST)?;
     let mut buffers = Buffers::new(rt.alloc(), 0)?;
-    let mut kept = Tape::null(rt.alloc())?;
-    let mut texts = Texts::new(rt.alloc());
-    reserve(LONGEST, &mut buffers, &mut kept)?;
-    texts.reserve(LONGEST)?;
+    let mut kept = Kept::new(rt.alloc());
+    buffers.reserve(LONGEST)?;
+    kept.reserve(LONGEST)?;
     for number in 1..u64::MAX {
         let len = next_line(log, &mut line)?;
         if len == 0 {
@@ -50,9 +49,7 @@ fn report(rt: &HostRuntime, log: &mut impl BufRead, output: &mut impl Write) -> 
         if line.trim_ascii().is_empty() {
             continue;
         }
-        let (read, tape) = read::<Request<'_>>(&mut line, &mut buffers, kept, &mut texts);
-        kept = tape;
-        match read {
+        match read::<Request<'_>>(&mut line, &mut buffers, &mut kept) {
             Ok(request) => write_failure(output, &request)?,
             Err(error) => {
                 let _ = eprintln!(rt; "line {number}: {error}");

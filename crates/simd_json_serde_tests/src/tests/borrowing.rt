@@ -2,9 +2,12 @@
 use crate::tests::types::{Folder, Line};
 use crate::tests::{MEMORY, bytes_of, read_owned_from};
 use simd_json::{Buffers, Tape, to_tape};
-use simd_json_serde::{Error, Texts, from_slice, from_tape, from_value, read, read_owned};
+use simd_json_serde::{
+    Error, Kept, from_slice, from_slice_owned, from_tape, from_value, read, read_owned,
+};
 use std::alloc::Global;
 use std::borrow::CowStr;
+use std::collections::BTreeMap;
 use std::process::Abort;
 
 const LINE: &str = r#"{"level":"in\"fo","ignored":{"a":[1,2,{}]},
@@ -31,31 +34,79 @@ fn strings_with_escapes_are_borrowed(rt: HostRuntime) {
     assert_eq!(rt; bytes.ok(), Some(b"Ab".as_slice()));
 }
 
+// A text may follow one with an escape, be empty, or be the last.
+#[test]
+fn borrowed_strings_are_decoded(rt: HostRuntime) {
+    let alloc = rt.alloc();
+    let text = r#"{"\u0061b":"","c\"":"\ud83d\ude00x","":"é\n","é\u00e9":"a"}"#;
+    let mut input = bytes_of(&rt, alloc, text);
+    let read: Result<BTreeMap<&str, &str>, Error> = from_slice(alloc, &mut input);
+    let map = read.ok().expect(&rt, "it is a map");
+    assert_eq!(rt; map.len(), 4);
+    for (key, value) in [("ab", ""), ("c\"", "\u{1F600}x"), ("", "é\n"), ("éé", "a")] {
+        assert_eq!(rt; map.get(key), Some(&value), "{key}");
+    }
+}
+
+const PAIRS: [u8; 50] = *br#"[["a\n","\u00e9\ud83d\ude00"],["",""],["x\\","/"]]"#;
+
+// With each byte in turn in the place of each other one.
+#[test]
+fn borrowed_mutants_are_as_owned(rt: HostRuntime) {
+    let alloc = rt.alloc();
+    for at in 0..PAIRS.len() {
+        for byte in *b"\"\\u,[]{}1 n\x00\xff" {
+            let mut mutant = PAIRS;
+            if let Some(place) = mutant.get_mut(at) {
+                *place = byte;
+            }
+            assert_as_owned(&rt, alloc, &mutant);
+        }
+    }
+}
+
+// What is borrowed of a text is what a type of its own strings holds, and so is the error.
+fn assert_as_owned(rt: &impl Abort, alloc: Global, text: &[u8]) {
+    let mut input = Vec::from_slice(alloc, text).expect(rt, MEMORY);
+    let owned: Result<Vec<(String, String)>, Error> = from_slice_owned(alloc, &mut input);
+    let mut input = Vec::from_slice(alloc, text).expect(rt, MEMORY);
+    let borrowed: Result<Vec<(&str, &str)>, Error> = from_slice(alloc, &mut input);
+    match (borrowed, owned) {
+        (Ok(borrowed), Ok(owned)) => {
+            assert_eq!(rt; borrowed.len(), owned.len());
+            for (pair, (first, second)) in borrowed.iter().zip(&owned) {
+                assert_eq!(rt; *pair, (first.as_str(), second.as_str()));
+            }
+        }
+        (Err(borrowed), Err(owned)) => {
+            let borrowed = borrowed.to_string(alloc).expect(rt, MEMORY);
+            let owned = owned.to_string(alloc).expect(rt, MEMORY);
+            assert_eq!(rt; borrowed.as_str(), owned.as_str());
+        }
+        _ => assert!(rt; false, "one of them is an error"),
+    }
+}
+
 #[test]
 fn memory_is_kept(rt: HostRuntime) {
     let alloc = rt.alloc();
     let mut buffers = Buffers::new(alloc, 0).expect(&rt, MEMORY);
-    let mut texts = Texts::new(alloc);
-    let mut kept = Tape::empty(alloc);
+    let mut kept = Kept::new(alloc);
     for _ in 0..3 {
         let mut input = bytes_of(&rt, alloc, LINE);
-        let (line, tape) = read::<Line<'_>>(&mut input, &mut buffers, kept, &mut texts);
-        let line = line.ok().expect(&rt, "it is a line");
-        assert_line(&rt, &line);
-        drop(line);
-        let mut input = bytes_of(&rt, alloc, "{\"level\":");
-        let (line, tape) = read::<Line<'_>>(&mut input, &mut buffers, tape, &mut texts);
-        assert!(rt; line.is_err(), "no document");
-        drop(line);
-        let mut input = bytes_of(&rt, alloc, "[[1],[2,[3]]]");
-        let (list, tape) = read_owned::<Vec<u8>>(&mut input, &mut buffers, tape, &mut texts);
+        let line: Result<Line<'_>, Error> = read(&mut input, &mut buffers, &mut kept);
+        // What is kept serves the next read while the line is still borrowed.
+        let mut other = bytes_of(&rt, alloc, "{\"level\":");
+        let none: Result<Line<'_>, Error> = read(&mut other, &mut buffers, &mut kept);
+        assert!(rt; none.is_err(), "no document");
+        let mut other = bytes_of(&rt, alloc, "[[1],[2,[3]]]");
+        let list: Result<Vec<u8>, Error> = read_owned(&mut other, &mut buffers, &mut kept);
         assert!(rt; list.is_err(), "no list of numbers");
-        drop(list);
-        let mut input = bytes_of(&rt, alloc, "[1,2,3]");
-        let (list, tape) = read_owned::<Vec<u8>>(&mut input, &mut buffers, tape, &mut texts);
+        let mut other = bytes_of(&rt, alloc, "[1,2,3]");
+        let list: Result<Vec<u8>, Error> = read_owned(&mut other, &mut buffers, &mut kept);
         let list = list.ok().expect(&rt, "it is a list");
         assert_eq!(rt; list.as_slice(), [1, 2, 3].as_slice());
-        kept = tape;
+        assert_line(&rt, &line.ok().expect(&rt, "it is a line"));
     }
 }
 

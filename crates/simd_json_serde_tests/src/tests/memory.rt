@@ -1,8 +1,8 @@
 // Each read returns its value or an error of memory, also where an allocation fails: by hand,
 // `rt try --test --fail-alloc N` for each N, where the other tests may fail, and these at `SETUP`.
 use crate::tests::types::{Folder, Line, Tweet};
-use simd_json::{Buffers, ErrorType, Tape, reserve};
-use simd_json_serde::{Error, MismatchKind, Texts, from_slice, from_slice_owned, read};
+use simd_json::{Buffers, ErrorType};
+use simd_json_serde::{Error, Kept, MismatchKind, from_slice, from_slice_owned, read};
 use std::process::Abort;
 
 const SETUP: &str = "what is kept was made";
@@ -28,14 +28,12 @@ fn failed_allocations_are_errors(rt: HostRuntime) {
     let mut input = *br#"{"b":{},"a":"x"}"#;
     let misfit: Result<Folder, Error> = from_slice_owned(alloc, &mut input);
     assert!(rt; misfit.is_err(), "a misfit");
-    let mut texts = Texts::new(alloc);
-    let mut kept = Tape::empty(alloc);
+    let mut kept = Kept::new(alloc);
     let mut buffers = Buffers::new(alloc, 0).expect(&rt, SETUP);
     for _ in 0..2 {
         let mut input = *br#"{"level":"\u0041","status":200,"path":"\/a","z":[{}]}"#;
-        let (line, tape) = read::<Line<'_>>(&mut input, &mut buffers, kept, &mut texts);
+        let line: Result<Line<'_>, Error> = read(&mut input, &mut buffers, &mut kept);
         assert_read_or_of_memory(&rt, "kept", &line);
-        kept = tape;
     }
 }
 
@@ -44,15 +42,13 @@ fn failed_allocations_are_errors(rt: HostRuntime) {
 fn reserved_reads_need_no_memory(rt: HostRuntime) {
     let alloc = rt.alloc();
     let text = br#"{"level":"\u0041","status":200,"path":"\/a","z":[[[[[]]]]]}"#;
-    let mut texts = Texts::new(alloc);
-    let mut kept = Tape::empty(alloc);
+    let mut kept = Kept::new(alloc);
     let mut buffers = Buffers::new(alloc, 0).expect(&rt, SETUP);
-    reserve(text.len(), &mut buffers, &mut kept).expect(&rt, SETUP);
-    texts.reserve(text.len()).expect(&rt, SETUP);
+    buffers.reserve(text.len()).expect(&rt, SETUP);
+    kept.reserve(text.len()).expect(&rt, SETUP);
     for _ in 0..2 {
         let mut input = *text;
-        let (line, tape) = read::<Line<'_>>(&mut input, &mut buffers, kept, &mut texts);
+        let line: Result<Line<'_>, Error> = read(&mut input, &mut buffers, &mut kept);
         assert!(rt; line.is_ok(), "there is memory");
-        kept = tape;
     }
 }

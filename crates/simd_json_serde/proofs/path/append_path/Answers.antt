@@ -1,20 +1,21 @@
 use Rattle.std.proofs.Common.{subst, arith}
 use Rattle.std.specs.Prelude.{string_bytes}
+use Rattle.simd_json_serde.specs.Nodes.{items_of}
 use Rattle.simd_json_serde.specs.Paths.{IsStep}
 use Rattle.simd_json_serde.proofs.Paths.{at-root, ends-none, ends-step, on-way}
 use Rattle.simd_json_serde.proofs.path.append_path.Goals as goal
 
 pub loop-passed-init : goal.loop-passed-init
-loop-passed-init c = λ d h. at-root c.args.nodes.now c.args.fault.now.node c.args.fault.now.depth d (string_bytes c.args.path.now) h
+loop-passed-init c = λ d h. at-root (items_of c.args.nodes) c.args.fault.now.node c.args.fault.now.depth d (string_bytes c.args.path.now) h
 
 pub returns : goal.returns
 returns c = λ d h.
-    ends-none c.args.nodes.now c.args.fault.now.node _ (string_bytes c.loop-passed.path) c.loop-passed.at _ (c.loop-passed.invariant d h)
+    ends-none (items_of c.args.nodes) c.args.fault.now.node _ (string_bytes c.loop-passed.path) c.loop-passed.at _ (c.loop-passed.invariant d h)
     (omega (arith, c.loop-passed-test.false))
 
 pub returns-in_default : goal.returns-in_default
 returns-in_default c = λ d h.
-    let ns = c.args.nodes.now in
+    let ns = (items_of c.args.nodes) in
     let node = c.args.fault.now.node in
     let l = c.loop-passed in
     let r = l.invariant d h in
@@ -24,7 +25,7 @@ returns-in_default c = λ d h.
 
 pub loop-passed-preserved : goal.loop-passed-preserved
 loop-passed-preserved c = λ d h.
-    let ns = c.args.nodes.now in
+    let ns = (items_of c.args.nodes) in
     let node = c.args.fault.now.node in
     let l = c.loop-passed in
     let r = l.invariant d h in

@@ -1,15 +1,19 @@
 use Rattle.std.proofs.Common.{◌<◌, ◌-◌, ◌+◌, ◌∙◌, refl, sym, arith}
 use Rattle.std.specs.Prelude.{string_bytes}
+use Rattle.simd_json_parts.specs.Nodes.{item_of}
+use Rattle.simd_json_serde.specs.Nodes.{items_of}
 use Rattle.simd_json_serde.specs.Paths.{index_token, key_token, way}
-use Rattle.simd_json_serde.proofs.Paths.{array-at, no-token, other-at, token-then}
+use Rattle.simd_json_serde.proofs.Paths.{array-at, no-token, other-at, some-at, token-then}
 use Rattle.simd_json_serde.proofs.path.append_token.Goals as goal
+
+pub returns-in_default : goal.returns-in_default
+returns-in_default c = λ d h. absurd (some-at (items_of c.args.nodes) c.args.at d h c.in_default.ensures)
 
 pub returns-in_default-element_around : goal.returns-in_default-element_around
 returns-in_default-element_around c = λ d h.
     let a = c.args in
-    let there = c.in-Some.ensures.lookup in
     let before : a.at < a.node = omega (arith, c.if-at-node.false) in
-    let r = array-at a.nodes.now a.node a.at c.in-Some.value.now there.3.0 there.1 before d h (sym c.if-is_array.ensures) in
+    let r = array-at (items_of a.nodes) a.node a.at (item_of c.in-Some.value) (sym c.in-Some.ensures) before d h (sym c.if-is_array.ensures) in
     let none = c.in_default-element_around.ensures r.elements r.begin (omega (arith, c.after-end.ensures.value d h, r.long))
     (omega (arith, before)) in
     (refl, no-token d (a.node - a.at) (λ depth. r.same depth ∙ none depth))
@@ -17,9 +21,8 @@ returns-in_default-element_around c = λ d h.
 pub returns-then-is_array : goal.returns-then-is_array
 returns-then-is_array c = λ d h.
     let a = c.args in
-    let there = c.in-Some.ensures.lookup in
     let before : a.at < a.node = omega (arith, c.if-at-node.false) in
-    let r = array-at a.nodes.now a.node a.at c.in-Some.value.now there.3.0 there.1 before d h (sym c.if-is_array.ensures) in
+    let r = array-at (items_of a.nodes) a.node a.at (item_of c.in-Some.value) (sym c.in-Some.ensures) before d h (sym c.if-is_array.ensures) in
     let found = c.in-Some-element_around.ensures r.elements r.begin (omega (arith, c.after-end.ensures.value d h, r.long))
     (omega (arith, before)) in (
       found.0,
@@ -33,9 +36,8 @@ returns-then-is_array c = λ d h.
 pub returns-in_default-member_around : goal.returns-in_default-member_around
 returns-in_default-member_around c = λ d h.
     let a = c.args in
-    let there = c.in-Some.ensures.lookup in
     let before : a.at < a.node = omega (arith, c.if-at-node.false) in
-    let r = other-at a.nodes.now a.node a.at c.in-Some.value.now there.3.0 there.1 before d h (sym c.if-is_array.ensures) in
+    let r = other-at (items_of a.nodes) a.node a.at (item_of c.in-Some.value) (sym c.in-Some.ensures) before d h (sym c.if-is_array.ensures) in
     let none = c.in_default-member_around.ensures r.members r.begin (omega (arith, c.after-end.ensures.value d h, r.long))
     (omega (arith, before)) in
     (refl, no-token d (a.node - a.at) (λ depth. r.same depth ∙ none depth))
@@ -43,9 +45,8 @@ returns-in_default-member_around c = λ d h.
 pub returns : goal.returns
 returns c = λ d h.
     let a = c.args in
-    let there = c.in-Some.ensures.lookup in
     let before : a.at < a.node = omega (arith, c.if-at-node.false) in
-    let r = other-at a.nodes.now a.node a.at c.in-Some.value.now there.3.0 there.1 before d h (sym c.if-is_array.ensures) in
+    let r = other-at (items_of a.nodes) a.node a.at (item_of c.in-Some.value) (sym c.in-Some.ensures) before d h (sym c.if-is_array.ensures) in
     let found = c.in-Some-member_around.ensures r.members r.begin (omega (arith, c.after-end.ensures.value d h, r.long))
     (omega (arith, before)) in (
       found.0,

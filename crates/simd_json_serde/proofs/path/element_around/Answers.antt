@@ -1,4 +1,5 @@
 use Rattle.std.proofs.Common.{◌-◌, arith}
+use Rattle.simd_json_serde.specs.Nodes.{items_of}
 use Rattle.simd_json_serde.specs.Paths.{elements_way}
 use Rattle.simd_json_serde.proofs.Paths.{element-found, element-passed, elements-end}
 use Rattle.simd_json_serde.proofs.path.element_around.Goals as goal
@@ -8,7 +9,7 @@ returns-then-node-next c = λ ds h ends before.
     let a = c.args in
     let l = c.loop-element in
     let found =
-    element-found a.nodes.now a.end a.node (λ depth. elements_way ds 0 depth (a.node - a.first)) l.element l.index c.after-next.result
+    element-found (items_of a.nodes) a.end a.node (λ depth. elements_way ds 0 depth (a.node - a.first)) l.element l.index c.after-next.result
     c.after-next.ensures.value c.loop-element-test.true (l.invariant.1 ds h ends before) c.if-node-next.true in
     (found.document, found.begin, found.same)
 
@@ -19,7 +20,7 @@ loop-element-preserved c =
       (let more = c.after-next.ensures.further (omega (arith, c.loop-element-test.true, c.ranges.end.fits)) in
           omega (arith, more, l.invariant.0)),
       λ ds h ends before.
-          element-passed a.nodes.now a.end a.node (λ depth. elements_way ds 0 depth
+          element-passed (items_of a.nodes) a.end a.node (λ depth. elements_way ds 0 depth
           (a.node - a.first)) l.element l.index c.after-next.result
           c.after-next.ensures.value c.loop-element-test.true (l.invariant.1 ds h ends before) (omega (arith, c.if-node-next.false)),
     )
@@ -28,5 +29,5 @@ pub returns : goal.returns
 returns c = λ ds h ends before.
     let a = c.args in
     let l = c.loop-element in
-    elements-end a.nodes.now a.end a.node (λ depth. elements_way ds 0 depth (a.node - a.first)) l.element l.index
+    elements-end (items_of a.nodes) a.end a.node (λ depth. elements_way ds 0 depth (a.node - a.first)) l.element l.index
     (l.invariant.1 ds h ends before) (omega (arith, c.loop-element-test.false))

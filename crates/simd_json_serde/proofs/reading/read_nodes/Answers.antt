@@ -1,7 +1,4 @@
 use Rattle.simd_json_serde.proofs.reading.read_nodes.Goals as goal
 
-pub returns-then-is_err-clause-path : goal.returns-then-is_err-clause-path
-returns-then-is_err-clause-path g c = λ d h. c.no_memory.ensures.path d
-
 pub returns-in-Err-clause-path : goal.returns-in-Err-clause-path
-returns-in-Err-clause-path g c = λ d h. c.no_memory-in-Err.ensures.path d
+returns-in-Err-clause-path g c = λ d h. c.no_memory.ensures.path d

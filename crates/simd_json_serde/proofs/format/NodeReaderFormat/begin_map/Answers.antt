@@ -7,5 +7,5 @@ use Rattle.simd_json_serde.proofs.format.NodeReaderFormat.begin_map.Goals as goa
 pub returns-in-Object-clause-given : goal.returns-in-Object-clause-given
 returns-in-Object-clause-given c = opened c.enter.result object_item (place c.args.self.now) (place c.take.new.self)
     (place c.enter.new.self)
-    c.in_ok-other.other _ _ c.in_ok-other.ensures.taken
+    (item_of c.in_ok-other.other) _ _ c.in_ok-other.ensures.taken
     (ap item_of c.in-Object.is) c.enter.ensures.entered

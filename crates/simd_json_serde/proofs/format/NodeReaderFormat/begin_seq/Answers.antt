@@ -6,5 +6,5 @@ use Rattle.simd_json_serde.proofs.format.NodeReaderFormat.begin_seq.Goals as goa
 
 pub returns-in-Array-clause-given : goal.returns-in-Array-clause-given
 returns-in-Array-clause-given c = opened c.enter.result array_item (place c.args.self.now) (place c.take.new.self) (place c.enter.new.self)
-    c.in_ok-other.other _ _ c.in_ok-other.ensures.taken
+    (item_of c.in_ok-other.other) _ _ c.in_ok-other.ensures.taken
     (ap item_of c.in-Array.is) c.enter.ensures.entered

@@ -1,6 +1,7 @@
 use Rattle.std.proofs.Common.{◌≡◌, ◌∙◌, ◌∷◌, ◌++◌, ◌+◌, [], ap, sym, arith, length, Some, None, get_or}
 use Rattle.std.proofs.lemmas.List.{length-append}
 use Rattle.std.specs.Prelude.{if◌then◌else◌}
+use Rattle.simd_json_serde.specs.Nodes.{items_of}
 use Rattle.simd_json_serde.specs.Places.{place}
 use Rattle.simd_json_serde.proofs.Octets.{next-place, next-bytes, reads-byte, byte-fits, any-error}
 use Rattle.simd_json_serde.proofs.node_reader.NodeReader.bytes_inside.Goals as goal
@@ -9,7 +10,7 @@ pub returns-in_err-u64-clause-err : goal.returns-in_err-u64-clause-err
 returns-in_err-u64-clause-err c = any-error c.from_residual.result _ (λ e bytes ends are.
     let here = c.bytes.invariant.place in
     let end = ap (λ p. p.end) here in
-    let read = reads-byte None (place c.bytes.self) c.args.self.now.nodes.now c.args.self.now.at bytes (length c.bytes.bytes.items)
+    let read = reads-byte None (place c.bytes.self) (items_of c.args.self.now.nodes) c.args.self.now.at bytes (length c.bytes.bytes.items)
     (ap (λ p. p.nodes) here) (ap (λ p. p.at) here) c.bytes-test.true (end ∙ sym ends) are
     (c.in_err-u64.ensures.exact (ap (λ p. p.at_key) here ∙ c.requires.value)) in
     cc)
@@ -19,11 +20,11 @@ returns-in_default-clause-err c bytes ends are =
     let here = c.bytes.invariant.place in
     let at = ap (λ p. p.at) here in
     let end = ap (λ p. p.end) here in
-    let read = reads-byte (Some c.in_ok-u64.field-0) (place c.bytes.self) c.args.self.now.nodes.now c.args.self.now.at bytes
+    let read = reads-byte (Some c.in_ok-u64.field-0) (place c.bytes.self) (items_of c.args.self.now.nodes) c.args.self.now.at bytes
     (length c.bytes.bytes.items) (ap (λ p. p.nodes) here) at c.bytes-test.true (end ∙ sym ends) are
     (c.in_ok-u64.ensures.exact (ap (λ p. p.at_key) here ∙ c.requires.value)) in
     let is : c.in_ok-u64.field-0 ≡ get_or bytes (length c.bytes.bytes.items) 0 = cc in
-    let fits = byte-fits c.args.self.now.nodes.now c.args.self.now.at bytes (length c.bytes.bytes.items)
+    let fits = byte-fits (items_of c.args.self.now.nodes) c.args.self.now.at bytes (length c.bytes.bytes.items)
     (omega (arith, at, end, ends, c.bytes-test.true)) are in
     absurd (c.in_default.ensures (omega (arith, is, fits)))
 
@@ -45,7 +46,7 @@ bytes-preserved c =
     record {
       place = there;
       within = omega (arith, new_at, new_end, at, end, more, c.bytes-test.true);
-      bytes = next-bytes c.args.self.now.nodes.now c.args.self.now.at c.bytes.bytes.items c.push.new.self.items (place c.bytes.self)
+      bytes = next-bytes (items_of c.args.self.now.nodes) c.args.self.now.at c.bytes.bytes.items c.push.new.self.items (place c.bytes.self)
           (place c.u64.new.self) c.in-Ok.byte c.in_ok-u64.field-0 c.bytes.invariant.bytes (ap (λ p. p.nodes) here) at value taken
           c.in-Ok.ensures.0 c.in-Ok.ensures.1 items;
     }

@@ -1,4 +1,5 @@
 use Rattle.std.proofs.Common.{◌≡◌, ◌≤◌, ◌+◌, ◌-◌, length}
+use Rattle.simd_json_serde.specs.Nodes.{items_of}
 use Rattle.simd_json_serde.specs.Places.{place}
 use Rattle.simd_json_serde.specs.Steps.{AreBytesAt}
 use Rattle.simd_json_serde.proofs.node_reader.NodeReader.bytes_inside.Given as goal
@@ -7,7 +8,7 @@ abbrev pub invariant-bytes : goal.invariant-bytes
 invariant-bytes l = record {
   place : place l.self ≡ record (place l.fn.self) { at = l.fn.self.at + length l.bytes.items };
   within : l.self.at ≤ l.self.end;
-  bytes : AreBytesAt l.fn.self.nodes.now l.fn.self.at l.bytes.items;
+  bytes : AreBytesAt (items_of l.fn.self.nodes) l.fn.self.at l.bytes.items;
 }
 
 abbrev pub decreases-bytes : goal.decreases-bytes
