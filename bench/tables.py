@@ -17,7 +17,7 @@ READERS = {"serde_json": None, "toolchain": "toolchain's serde_json", "simd_json
 # The sizes of the shapes that are made to be slow.
 SHAPE_BYTES = [10**6, 64 * 10**6]
 # Columns that a document leaves out; the chart has most of them.
-LEFT_OUT = ["fresh", "C check", "C kept parse", "yajl, events alone", "rapidjson in place", "serde_json Value"]
+LEFT_OUT = ["fresh", "C check", "C kept check", "yajl, events alone", "rapidjson in place", "serde_json Value"]
 LEFT_OUT_OF_TASKS = ["simdjson DOM", "rapidjson in place", READERS["toolchain"]]
 # The sentence of README.md that has the mean.
 SENTENCE = re.compile(r"\d\.\d\d times on average over \d+ texts and \d+ sizes \(\S+ to \S+\), at `x86-64-v\d`, in \w+ \d{4}")
@@ -228,11 +228,12 @@ def main():
     )
     when = (folder / "when").read_text().strip()
     whole, scan = ("simdjson's best DOM parse", "its best stage 1") if kinds.has_simdjson() else ("the fastest", "the fastest")
+    checks = [kinds.ratio(t, f"simd_json C kept check, {kinds.level()}") for t in kinds.sizes]
     first = next(iter(next(iter(found_tasks(tasks).values()))))
     text = (
         f"Measured on {when}. Speed of a whole parse over {whole}, of a scan over {scan}, ours at `x86-64-{kinds.level()}`.\n\n"
         f"{table_of_kinds(kinds, LEFT_OUT if documents else ())}\n\n"
-        f"Geometric mean of the others: {means(kinds, ours=False) or 'none is installed'}.\n\n"
+        f"Geometric mean of C's kept check {shown(mean(checks))}; of the others: {means(kinds, ours=False) or 'none is installed'}.\n\n"
         f"Over forty different texts of 24 kB of each kind, one after the other: {means(varied)}.\n\n"
         f"Cost against size, over tweets: what a byte of {whole} takes, and our speed over it.\n\n"
         f"{table_of_sizes(sizes, bool(documents))}\n\n"

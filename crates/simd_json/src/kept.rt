@@ -21,7 +21,39 @@ use std::alloc::Allocator;
 use std::marker::Model;
 
 /// A node of a form of the caller's own, which [`keep_spans`] keeps. It is made of where its text
-/// lies in the input after the parse, a byte index and a number of bytes.
+/// lies in the input after the parse, a byte index and a number of bytes. Here it is that alone:
+///
+/// ```
+/// ghost use Rattle.std.specs.Prelude.{length};
+/// use simd_json::{Container, SpanNode, StaticNode};
+///
+/// /// Where a text lies; where there is none, 0 bytes at 0.
+/// #[derive(Clone, Copy, Drop)]
+/// pub struct Place {
+///     pub at: usize,
+///     pub len: usize,
+/// }
+///
+/// impl SpanNode for Place {
+///     ghost form = { λ p. record { at = p.at; len = length p.text } };
+///
+///     fn string(at: usize, len: usize) -> Place {
+///         Place { at, len }
+///     }
+///     fn decimal(at: usize, len: usize) -> Place {
+///         Place { at, len }
+///     }
+///     fn long(at: usize, len: usize, _value: StaticNode) -> Place {
+///         Place { at, len }
+///     }
+///     fn fixed(_value: StaticNode) -> Place {
+///         Place { at: 0, len: 0 }
+///     }
+///     fn header(_container: Container, _len: usize, _count: usize) -> Place {
+///         Place { at: 0, len: 0 }
+///     }
+/// }
+/// ```
 pub trait SpanNode: Copy {
     // The node of what a sink is given.
     ghost form: { Placed → Self };

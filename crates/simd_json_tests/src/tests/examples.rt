@@ -1,7 +1,11 @@
-// The examples of the README, of the entry points and of the views, as they stand there.
+// The examples of the README, of the entry points and of the views, as they are there.
+ghost use Rattle.std.specs.Prelude.{length};
+
 use crate::tests::spans::empty_list;
 use crate::tests::tape_of;
-use simd_json::{Buffers, Container, ListSink, NodeSink, SpanSink, fill_spans};
+use simd_json::{
+    Buffers, Container, ListSink, NodeSink, SpanSink, fill_spans, keep_spans,
+};
 
 mod first_call {
     use simd_json::{Result, to_tape};
@@ -181,6 +185,37 @@ mod sinks {
     }
 }
 
+mod kept {
+    use simd_json::{Container, SpanNode, StaticNode};
+
+    /// Where a text lies; where there is none, 0 bytes at 0.
+    #[derive(Clone, Copy, Drop)]
+    pub(super) struct Place {
+        pub(super) at: usize,
+        pub(super) len: usize,
+    }
+
+    impl SpanNode for Place {
+        ghost form = { λ p. record { at = p.at; len = length p.text } };
+
+        fn string(at: usize, len: usize) -> Place {
+            Place { at, len }
+        }
+        fn decimal(at: usize, len: usize) -> Place {
+            Place { at, len }
+        }
+        fn long(at: usize, len: usize, _value: StaticNode) -> Place {
+            Place { at, len }
+        }
+        fn fixed(_value: StaticNode) -> Place {
+            Place { at: 0, len: 0 }
+        }
+        fn header(_container: Container, _len: usize, _count: usize) -> Place {
+            Place { at: 0, len: 0 }
+        }
+    }
+}
+
 mod views {
     use simd_json::TryTypeError;
     use simd_json::tape::Value;
@@ -264,4 +299,19 @@ fn a_sink_keeps_the_place_of_a_string(rt: HostRuntime) {
         b"bcd".as_slice()
     );
     assert_eq!(rt; longest.nodes.len(), 4);
+}
+
+#[test]
+fn places_of_texts_are_kept(rt: HostRuntime) {
+    let mut input = *b"{\"a\":[1,\"x\\ny\",2.50]}";
+    let mut buffers = Buffers::empty(rt.alloc(), 2);
+    let mut places: Vec<kept::Place> = Vec::new(rt.alloc());
+    let kept = keep_spans(&mut input, &mut buffers, &mut places);
+    assert_eq!(rt; kept, Ok(true));
+    let wanted = [(0, 0), (2, 1), (0, 0), (0, 0), (9, 3), (15, 4)];
+    assert_eq!(rt; places.len(), wanted.len());
+    for (place, (at, len)) in places.iter().zip(wanted) {
+        assert_eq!(rt; (place.at, place.len), (at, len));
+    }
+    assert_eq!(rt; &input[9..12], b"x\ny".as_slice());
 }
