@@ -3,9 +3,7 @@ ghost use Rattle.std.specs.Prelude.{length};
 
 use crate::tests::spans::empty_list;
 use crate::tests::tape_of;
-use simd_json::{
-    Buffers, Container, ListSink, NodeSink, SpanSink, fill_spans, keep_spans,
-};
+use simd_json::{Buffers, Container, ListSink, NodeSink, SpanSink, fill_spans, keep_spans};
 
 mod first_call {
     use simd_json::{Result, to_tape};
@@ -201,15 +199,19 @@ mod kept {
         fn string(at: usize, len: usize) -> Place {
             Place { at, len }
         }
+
         fn decimal(at: usize, len: usize) -> Place {
             Place { at, len }
         }
+
         fn long(at: usize, len: usize, _value: StaticNode) -> Place {
             Place { at, len }
         }
+
         fn fixed(_value: StaticNode) -> Place {
             Place { at: 0, len: 0 }
         }
+
         fn header(_container: Container, _len: usize, _count: usize) -> Place {
             Place { at: 0, len: 0 }
         }
