@@ -1,4 +1,4 @@
-//! The words of a program's command line, what it refuses of them beside what clap does, and how it
+//! The words of a program's command line, what it rejects of them beside what clap does, and how it
 //! ends where it does, or where they ask for help alone.
 ghost use Rattle.std.specs.Prelude.{◌≡◌, IfOk};
 ghost use Rattle.std.specs.Char.{is_ascii_digit};
@@ -33,7 +33,8 @@ pub fn words_status(e: &io::Error) -> u8
     }
 }
 
-/// Returns the exit status of a program that refuses its arguments: 3 for want of memory, or else 2.
+/// Returns the exit status of a program that rejects its arguments: 3 for want of memory, or else
+/// 2.
 pub fn fault_status(e: &Error) -> u8
     ensures { result ≡ fault_status (kind_of e.now) }
 {

@@ -2,15 +2,16 @@
 //!
 //! - [`Channel`]: a reader or a writer that records whether a call on it failed, and whether it
 //!   ended. [`Source`]: a file or standard input, which records why it can't be read.
-//! - [`read_all`]: all bytes of a reader. [`Lines`]: cuts what a reader gives into lines, in bounded memory. [`rejection_words`]: names a
-//!   rejected line; [`put_name`] writes that after the name of its file.
-//! - [`tsv_escape`]: what stands for a byte in tab separated text.
+//! - [`read_all`]: all bytes of a reader. [`Lines`]: cuts what a reader gives into lines, in
+//!   bounded memory. [`rejection_words`]: names a rejected line; [`put_name`] writes that after the
+//!   name of its file.
+//! - [`tsv_escape`]: what is written for a byte in tab separated text.
 //! - [`Failure`]: why a run ended before the end of its input. [`ending`]: the exit status, and the
 //!   line for standard error.
 //! - [`arguments`]: the words of the command line. [`words_status`], [`fault_status`],
-//!   [`help_status`]: the exit status without them, where they are refused, and after help.
-//! - [`check_digits`], [`has_digits_alone`]: whether a number has digits alone. [`invalid_value`]: the
-//!   error of a value that an argument does not take.
+//!   [`help_status`]: the exit status without them, where they are rejected, and after help.
+//! - [`check_digits`], [`has_digits_alone`]: whether a number has digits alone. [`invalid_value`]:
+//!   the error of a value that an argument does not take.
 //!
 //! ```
 //! use jsonl::{Channel, Failure, Lines, Step};

@@ -2,7 +2,7 @@
 ghost use Rattle.std.specs.Prelude.{◌≡◌, option_map};
 ghost use Rattle.jsonl.specs.Cells.{tsv_escape};
 
-/// Returns what stands for a byte in tab separated text, if not the byte itself.
+/// Returns what is written for a byte in tab separated text, if not the byte itself.
 pub fn tsv_escape(byte: u8) -> Option<&'static [u8]>
     ensures { option_map (λ escape. escape.now) result ≡ tsv_escape byte }
 {

@@ -4,7 +4,7 @@ use Rattle.std.specs.Prelude.{IsErrAnd, MatchResult}
 use Rattle.jsonl.proofs.Calls.{NamesIn}
 use Rattle.jsonl.specs.Failures.{read_fault}
 use Rattle.jsonl.specs.declared.failure.Failure.{Failure}
-use Rattle.jsonl.specs.declared.failure.Failure.TheVariants.{Read, Closed, Resources}
+use Rattle.jsonl.specs.declared.failure.Failure.TheVariants.{Closed, Resources}
 use Rattle.log_report.specs.Runs.{EndsInput, input_fault, report_fault}
 
 -- ---- the call that reads an input

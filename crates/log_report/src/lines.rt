@@ -4,8 +4,8 @@ ghost use Rattle.log_report.specs.Report.{notice_words, rejection_line};
 ghost use Rattle.jsonl.specs.Failures.{Begins, Ends};
 ghost use Rattle.log_report.specs.Runs.{AddsValue, BeginsInput, BeginsCountedLine, BeginsNotice};
 ghost use Rattle.log_report.specs.Runs.{BeginsReport, CountsMore, EndsInput, EndsReport};
-ghost use Rattle.log_report.specs.Runs.{CountsRejection, HasNoLine, Notes, Prints, TakesInput, CountsLine};
-ghost use Rattle.log_report.specs.Runs.{counts_of};
+ghost use Rattle.log_report.specs.Runs.{CountsRejection, HasNoLine, Notes, Prints, TakesInput};
+ghost use Rattle.log_report.specs.Runs.{CountsLine, counts_of};
 ghost use Rattle.log_report.specs.Table.{lines_of, others};
 ghost use Rattle.simd_json.specs.Viewed.{doc};
 
@@ -197,7 +197,8 @@ impl<'k, A: Allocator + Copy> Lines<'k, A> {
         let mut words = Words::new();
         writeln!(
             words,
-            "lines under {mark}: {count} (--values for more than {values} values; a row has at most 1024 bytes)"
+            "lines under {mark}: {count} (--values for more than {values} values; \
+             a row has at most 1024 bytes)"
         )?;
         Ok(words)
     }

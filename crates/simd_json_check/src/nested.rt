@@ -1,4 +1,4 @@
-//! Whether structural indexes are those of a value, within so many nested containers. Nothing is
+//! Whether structural indexes are those of a value that does not exceed a depth limit. Nothing is
 //! kept of it, and one error is as good as another.
 ghost use Rattle.std.specs.Prelude.{◌≡◌, ◌<◌, ◌≤◌, length, drop, slice_index, IfSome};
 ghost use Rattle.simd_json_check.specs.Scanned.{IsWholeScan};

@@ -10,11 +10,11 @@ ghost use Rattle.simd_json_parts.specs.Numbers.{has_minus};
 pub(crate) struct Literal<'text> {
     // Whether it is below zero.
     pub(crate) is_negative: bool,
-    // What stands before the `e`, from the first digit on that is not 0: nothing for zero.
+    // What is before the `e`, from the first digit on that is not 0: nothing for zero.
     pub(crate) significant: &'text [u8],
-    // What stands after the point.
+    // What is after the point.
     pub(crate) fraction: &'text [u8],
-    // What stands after the `e`.
+    // What is after the `e`.
     pub(crate) exponent: &'text [u8],
     ghost leading: { 0 < length significant.now → 0 < slice_index (digits significant.now) 0 },
     ghost below_zero: { IsTrue is_negative → 0 < length significant.now },

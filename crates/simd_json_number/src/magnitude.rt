@@ -63,7 +63,7 @@ fn first_apart(
     difference(left.exponent, right.exponent) + left_height - right_height
 }
 
-// The first of so many digits that differ decide.
+// The first of `count` digits that differ decide.
 fn compare_digits(left: &[u8], right: &[u8], count: usize) -> Ordering
     ensures { result ≡ compare_first count (digits left.now) (digits right.now) }
 {

@@ -21,7 +21,7 @@ pub enum Number<'text> {
         magnitude: u128,
     },
     /// A literal. In a text that is none, what is neither a digit, nor the first `e`, `E` or point,
-    /// nor a `-` at the beginning or after the `e` is passed over.
+    /// nor a `-` at the beginning or after the `e`, is skipped.
     Literal(&'text str),
 }
 

@@ -117,7 +117,7 @@ impl<'d> Array<'d> {
         found(self.step())
     }
 
-    // The value after so many.
+    // The value after the next `index` values.
     fn behind(self, index: usize) -> Result<Option<Value<'d>>, Stop<'d>>
         ensures documents { told (option_map doc) result
             ≡ first (walk_past index (elements_ahead self.entry)) }

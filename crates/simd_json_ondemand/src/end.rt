@@ -1,4 +1,4 @@
-//! Where arrays and objects end, so that a cursor around them goes on there.
+//! Where arrays and objects end, so that a cursor around them moves there.
 ghost use Rattle.std.specs.Prelude.{◌≡◌, ◌<◌, length};
 
 use crate::array::Position;

@@ -21,7 +21,7 @@ impl<'d> Object<'d> {
     ghost use Rattle.simd_json_parts.specs.Document.{string};
 
     /// Returns the value of the first of the members left that has this key or, if none has it, of
-    /// the first of all members of the object that has it, and goes on behind that member. If the
+    /// the first of all members of the object that has it, and moves behind that member. If the
     /// object has no such member, it returns `None`, and the cursor stays where it is.
     ///
     /// Keys that are asked for in the order of the input take one pass along the object. One that

@@ -5,9 +5,9 @@
 //! never written. What is not asked for is not read, and a value takes no memory but its own five
 //! words.
 //!
-//! [`Value::get`] returns the value of the first member with a key. [`Object::find`] goes on where
-//! the search before it ended, and then once round: keys that are asked for in the order of the
-//! input take one pass, and others are found too. [`Object::pass`] goes on at the end of a value
+//! [`Value::get`] returns the value of the first member with a key. [`Object::find`] begins where
+//! the search before it ended, and goes once round: keys that are asked for in the order of the
+//! input take one pass, and others are found too. [`Object::pass`] moves to the end of a value
 //! that another cursor has read. [`lines()`] returns the lines of JSON Lines, each a document of
 //! its own.
 //! [`Value::pointer`] follows a JSON Pointer (RFC 6901), and [`Value::at`] one that is split once;
@@ -23,7 +23,7 @@
 //! - If it is not, a call may return a value all the same: `1 2` has the root 1. A string or a
 //!   scalar that is returned is always the whole literal at that place, followed by what must
 //!   follow a scalar. The walk to it tests each token on its way, but not what is inside the values
-//!   that it passes over, and stops where the grammar has another token.
+//!   that it skips, and stops where the grammar has another token.
 //!
 //! Where the walk stops, an iteration by [`next`](Iterator::next) or
 //! [`next_value`](Array::next_value) ends early without a word, and [`Value::get`] or

@@ -135,7 +135,7 @@ impl<'d> Object<'d> {
     /// stay the same.
     ///
     /// The end must be that of the value that was returned last. With another, members may be
-    /// passed over, or those of another object follow.
+    /// skipped, or those of another object follow.
     ///
     /// ```
     /// use simd_json_ondemand::Value;
@@ -260,7 +260,7 @@ impl<'d> Value<'d> {
     }
 
     /// Returns the value of the first member of the object with this key, or `None` if the object
-    /// has no such member or the value is no object. Members of nested objects are passed over.
+    /// has no such member or the value is no object. Members of nested objects are skipped.
     /// `None` does not tell a missing key from bytes that are no object;
     /// [`try_get`](Value::try_get) does.
     #[inline(always)]

@@ -92,8 +92,8 @@ pub(crate) fn close_here(input: &[u8], indexes: &[u32], at: usize) -> usize
     close(input, indexes, at)
 }
 
-// The number of the bit of the bracket with which so many open containers are closed, if there is
-// one.
+// The number of the bit of the bracket that closes the outermost of `levels` open containers, if
+// there is one.
 #[inline(always)]
 fn closing_bit(opens: u64, closes: u64, levels: usize) -> Option<usize>
     requires { (0 < levels) × (levels < 2 ^ 63) }

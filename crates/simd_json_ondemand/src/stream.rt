@@ -15,7 +15,7 @@ pub struct InputLines<'i> {
 }
 
 /// Returns the lines of an input: what is between line feeds, before the first and after the last.
-/// Blank lines, which are empty or whitespace alone (RFC 8259, section 2), are passed over.
+/// Blank lines, which are empty or whitespace alone (RFC 8259, section 2), are skipped.
 ///
 /// ```
 /// use simd_json_ondemand::{Index, Result, lines};

@@ -133,7 +133,7 @@ impl<'d> Value<'d> {
     }
 
     /// Returns the value of the first member of the object with this key, or `None` if the members
-    /// come to the closing brace and none has the key. Members of nested objects are passed over.
+    /// come to the closing brace and none has the key. Members of nested objects are skipped.
     ///
     /// Returns an error that expects `Object` if the value is no object, and one that names the
     /// place where the walk along the members stopped before, as
@@ -192,7 +192,7 @@ impl<'d> Array<'d> {
     ///
     /// Returns an error where the walk stops before: where neither a comma nor the bracket follows
     /// a value, or no value begins where one is expected. The cursor stays where it is. What is
-    /// inside a value is not tested, but passed over by its brackets.
+    /// inside a value is not tested, but skipped by its brackets.
     #[inline(always)]
     pub fn try_next(&mut self) -> Result<Option<Value<'d>>, Unexpected>
         ensures steps { MatchResult result
@@ -244,7 +244,7 @@ impl<'d> Object<'d> {
     }
 
     /// Returns the value of the first of the members left that has this key or, if these come to
-    /// the closing brace and none has it, of the first of all members that has it, and goes on
+    /// the closing brace and none has it, of the first of all members that has it, and moves
     /// behind that member, as [`find`](Object::find) does. If the object has no such member, it
     /// returns `None`, and the cursor stays where it is.
     ///

@@ -45,13 +45,15 @@ module _ (root : Document) where
       ∙ append-nil _
       ∙ ap (λ ds. flat_map (selected_in root room others) (followed s.steps.now ds)) (all-children s.selectors.now d parts.1)
 
-  pub one-left : (room : ℕ) (ss : List (Segment Selector)) (s : Segment Selector) (others : List (Segment Selector)) (d : Document) → ss ≡ s ∷ others
+  pub one-left : (room : ℕ) (ss : List (Segment Selector)) (s : Segment Selector) (others : List (Segment Selector)) (d : Document)
+      → ss ≡ s ∷ others
       → (length others == 0) ≡ true → is_leaf s ≡ true → selected_in root (suc room) ss d ≡ map Some (followed s.steps.now (children d))
   one-left room ss s (o ∷ os) d is last leaf = let none : length (o ∷ os) ≡ 0 = eqb-true _ _ last in absurd (omega arith)
   one-left room ss s [] d is last leaf =
       ap (λ zs. selected_in root (suc room) zs d) is ∙ wildcard-step room s [] d leaf ∙ singles room (followed s.steps.now (children d))
 
-  pub two-left : (room : ℕ) (ss : List (Segment Selector)) (s t : Segment Selector) (others none : List (Segment Selector)) (d : Document) → ss ≡ s ∷ others
+  pub two-left : (room : ℕ) (ss : List (Segment Selector)) (s t : Segment Selector) (others none : List (Segment Selector)) (d : Document)
+      → ss ≡ s ∷ others
       → others ≡ t ∷ none → (length none == 0) ≡ true → is_leaf s ≡ true → is_leaf t ≡ true
       → selected_in root (suc (suc room)) ss d
       ≡ map Some (flat_map (λ e. followed t.steps.now (children e)) (followed s.steps.now (children d)))

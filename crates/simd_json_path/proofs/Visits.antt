@@ -14,7 +14,8 @@ use Rattle.simd_json_query.specs.declared.query.Selector.{Selector}
 module _ (root : Document) (room : ℕ) where
   -- ---- segments at a value: the first one's selectors, then the children
 
-  pub selected-at : (ss : List (Segment Selector)) (z : Segment Selector) (d : Document) (below : Bool) (xs cs : List Document) (e : Document)
+  pub selected-at : (ss : List (Segment Selector)) (z : Segment Selector) (d : Document) (below : Bool)
+      (xs cs : List Document) (e : Document)
       → 0 < length ss → below ≡ false → xs ≡ selected_by_all root (slice_index_or ss 0 z).selectors.now d → e ≡ d
       → flat_map (selected_in root room (drop 1 ss)) (followed (slice_index_or ss 0 z).steps.now (cond below [] xs))
       ++ flat_map (selected_in root room ss) (cond below cs (entered (slice_index_or ss 0 z).is_descendant e))
@@ -39,7 +40,8 @@ module _ (root : Document) (room : ℕ) where
       let there = ap (λ y. sum_by (effort root room (s ∷ ss)) (entered s.is_descendant y)) same in
       omega (arith, here, there)
 
-  pub effort-below : (ss : List (Segment Selector)) (z : Segment Selector) (d : Document) (below : Bool) (steps : List Step) (xs cs ys : List Document)
+  pub effort-below : (ss : List (Segment Selector)) (z : Segment Selector) (d : Document) (below : Bool) (steps : List Step)
+      (xs cs ys : List Document)
       → 0 < length ss → below ≡ true → (slice_index_or ss 0 z).is_descendant ≡ true
       → selected_by_all root (slice_index_or ss 0 z).selectors.now d ≡ [] → cs ≡ children d
       → 2 + (sum_by (effort root room (drop 1 ss)) (followed steps (cond below [] xs))

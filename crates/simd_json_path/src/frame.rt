@@ -1,4 +1,4 @@
-//! A value at which a segment goes on.
+//! A value at which a segment continues.
 ghost use Rattle.std.specs.Prelude.{◌≡◌, ◌<◌, length};
 
 use crate::children::Children;
@@ -14,11 +14,11 @@ static NOTHING: [Segment<'static>; 1] = [Segment {
     steps: &[],
 }];
 
-/// Memory for a value at which a segment goes on: what is left of what segments select of it.
+/// Memory for a value at which a segment continues: what is left of what segments select of it.
 #[derive(Clone, Copy)]
 pub struct Frame<'path, 'tape, 'input> {
     segments: &'path [Segment<'path>],
-    // Where the first segment goes on from what its selectors select.
+    // Where the first segment continues from what its selectors select.
     steps: &'path [Step<'path>],
     // What is left of that; of the children that it visits too, once it is at these.
     opened: Opened<'path, 'tape, 'input>,
@@ -80,7 +80,7 @@ impl<'path, 'tape, 'input> Frame<'path, 'tape, 'input> {
         self.is_descendant = first.is_descendant;
     }
 
-    // The next value, and the segments that go on from it, in a query that is applied to `root`.
+    // The next value, and the segments that continue from it, in a query that is applied to `root`.
     #[inline(always)]
     pub(crate) fn next(
         &mut self,

@@ -1,4 +1,4 @@
-//! The values at which segments go on, each inside the one before it.
+//! The values at which segments continue, each inside the one before it.
 ghost use Rattle.std.specs.Prelude.{◌≡◌, ◌+◌, ◌<◌, ◌≤◌, ◌∷◌, ◌++◌, [], suc, ℕ, length, take};
 ghost use Rattle.std.specs.Prelude.{MatchOption, Some, map, true};
 ghost use Rattle.simd_json.specs.Beneath.{children};
@@ -15,7 +15,7 @@ use crate::selected::TooFewFrames;
 use simd_json::tape::Value;
 use simd_json_query::Segment;
 
-// The next value of the frame at an index, and the segments that go on from it.
+// The next value of the frame at an index, and the segments that continue from it.
 #[inline(always)]
 fn step<'path, 'tape, 'input>(
     frames: &mut [Frame<'path, 'tape, 'input>],

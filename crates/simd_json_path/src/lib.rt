@@ -53,10 +53,10 @@
 //!
 //! # Frames
 //!
-//! A frame is a value at which a segment goes on. [`Path::frames`] returns how many suffice: one
+//! A frame is a value at which a segment continues. [`Path::frames`] returns how many suffice: one
 //! for each segment, and if one is a descendant segment, one for each level of the document
 //! besides. With fewer nothing is left out silently: in the place of what lies beneath a value for
-//! which no frame is left, the iterator returns [`TooFewFrames`], and goes on after it.
+//! which no frame is left, the iterator returns [`TooFewFrames`], and continues after it.
 //!
 //! # What is proved
 //!

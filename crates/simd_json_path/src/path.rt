@@ -13,8 +13,8 @@ use std::alloc::Allocator;
 /// A query: what it selects, of any value.
 #[derive(Clone, Copy)]
 pub struct Path<'path> {
-    /// Where the first segment begins: they stand for child segments of one name or one index each,
-    /// and take no frame.
+    /// Where the first segment begins: each is a child segment of one name or one index, and takes
+    /// no frame.
     pub steps: &'path [Step<'path>],
     /// Each selects of the nodes that the one before it selected. Without any the value itself is
     /// selected.
@@ -40,9 +40,9 @@ impl<'path> Path<'path> {
         Ok(Path { steps, segments })
     }
 
-    /// How many frames suffice for a value in which so many arrays and objects are nested, as the
-    /// depth limit of its parse allows: one for each segment, and if one is a descendant segment,
-    /// one for each level besides. It is `usize::MAX` where it would be more.
+    /// How many frames suffice for a value whose arrays and objects are nested at most `depth`
+    /// deep, as the depth limit of its parse ensures: one for each segment, and if one is a
+    /// descendant segment, one for each level besides. It is `usize::MAX` where it would be more.
     pub fn frames(&self, depth: usize) -> usize
         ensures { result ≡ min (frames_for self.now depth) (2 ^ 64 - 1) }
     {

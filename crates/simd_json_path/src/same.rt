@@ -11,7 +11,7 @@ ghost use Rattle.simd_json_path.specs.Operands.{scalar_value};
 use crate::scalar::Scalar;
 use simd_json::tape::{Object, Value, array, object};
 
-// Whether two values are equal, down to so many levels: it recurses over these.
+// Whether two values are equal, down to `levels` levels: it recurses over these.
 #[cycle(same)]
 pub(crate) fn same_to(left: Value<'_, '_>, right: Value<'_, '_>, levels: usize) -> bool
     ensures { result ≡ same_to levels (doc left.entry) (doc right.entry) }
@@ -107,7 +107,7 @@ fn same_value(left: Object<'_, '_>, right: Object<'_, '_>, key: &str, levels: us
     }
 }
 
-// Whether a key is one of the first so many keys.
+// Whether a key is one of the first `count` keys.
 fn is_among(key: &str, keys: object::Keys<'_, '_>, count: usize) -> bool
     ensures { result
         ≡ list_any (λ other. bytes_eq other key.now) (take count (keys_left keys.entry)) }

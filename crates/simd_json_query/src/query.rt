@@ -44,7 +44,7 @@ pub struct Segment<'path, S = Selector<'path>> {
     pub selectors: &'path [S],
     /// Whether it visits all nodes beneath a node too, and not only the node itself.
     pub is_descendant: bool,
-    /// Where it goes on from each node that is selected: each is a child segment of one name or one
-    /// index, and takes no frame.
+    /// Where it continues from each node that is selected: each is a child segment of one name or
+    /// one index, and takes no frame.
     pub steps: &'path [Step<'path>],
 }

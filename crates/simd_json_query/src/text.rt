@@ -139,10 +139,10 @@ pub type QueryParts<'path> = (
     &'path [Segment<'path, Selector<'path>>],
 );
 
-// Parentheses may be nested so deep.
+// How deep parentheses may be nested.
 const MAX_NESTING: usize = 100;
 
-// A filter's query may have so many segments: what evaluates it recurses over them.
+// How many segments a filter's query may have: what evaluates it recurses over them.
 const MAX_SEGMENTS: usize = 100;
 
 /// The query of a text, in an arena.

@@ -1,6 +1,6 @@
 -- Nodes whose texts lie in the input, and that these stay while later bytes are written.
-use Rattle.std.specs.Prelude.{◌≡◌, ◌≤◌, ◌<◌, ◌+◌, ◌^◌, ℕ, ℤ, pos, List, [], ◌∷◌, ◌++◌, length, take, drop, Bool, true, false, IsTrue, IsFalse}
-use Rattle.std.specs.Prelude.{IsUtf8, Ok}
+use Rattle.std.specs.Prelude.{◌≡◌, ◌≤◌, ◌<◌, ◌+◌, ◌^◌, ℕ, ℤ, pos, List, [], ◌∷◌, ◌++◌, length, take, drop}
+use Rattle.std.specs.Prelude.{Bool, true, false, IsTrue, IsFalse, IsUtf8, Ok}
 use Rattle.std.specs.List.{All}
 use Rattle.std.specs.Str.{is_utf8}
 use Rattle.simd_json_parts.specs.Derivatives.{matches}

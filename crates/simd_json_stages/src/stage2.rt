@@ -17,7 +17,7 @@
 //!       └ after_member a comma, or the closing bracket: set_counts in the sink
 //! ```
 //!
-//! `build_spans` does the same for a sink that is told where each text begins (`spans`).
+//! `build_spans` does the same for a sink that gets the index where each text begins (`spans`).
 //!
 //! Beside `machine`, `progress` holds how far it is, `stack` the open containers, `builder` what it
 //! reads and writes: an `input`, and the sink of `nodes`. `scalar` reads the values of one node,

@@ -1,6 +1,6 @@
 -- The steps of a JSON Pointer over the values of a tape.
 use Rattle.std.proofs.Common.{◌≡◌, ◌≢◌, ◌<◌, ◌+◌, ◌∙◌, ◌⊎◌, inl, inr, ap, sym, ℕ, List, [], ◌∷◌, drop, get_or, length}
-use Rattle.std.specs.Prelude.{Option, None, Result, Ok, IfOk, option_map}
+use Rattle.std.specs.Prelude.{Option, None, Result, IfOk, option_map}
 use Rattle.std.specs.List.{slice_range}
 use Rattle.std.specs.Result.{result_ok}
 use Rattle.std.specs.declared.convert.Infallible.{Infallible}

@@ -16,7 +16,7 @@ pub trait Parent: Copy {
 
     /// Returns the child that a token names, or `None` where it names none.
     ///
-    /// Requires of a token that is called plain that it has no `~`: it is the key as it stands.
+    /// Requires of a token that is called plain that it has no `~`, so that it is the key itself.
     fn child(self, token: &str, is_plain: bool) -> Result<Option<Self>, Self::Stop>
         requires { is_plain ≡ true → IsPlain token.now }
         ensures { names self token.now result };

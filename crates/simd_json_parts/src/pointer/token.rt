@@ -15,7 +15,7 @@ use std::simd::prelude::*;
 pub struct Token {
     /// The index of the byte after it: the `/` of the next token, or the end of the pointer.
     pub end: usize,
-    /// Whether it has no `~`: it is the key as it stands.
+    /// Whether it has no `~`, so that it is the key itself.
     pub is_plain: bool,
 }
 
@@ -51,7 +51,7 @@ fn is_tilde_at(bytes: &[u8], at: usize) -> bool
     at < bytes.len() && bytes[at] == b'~'
 }
 
-/// Whether there is no `~` in a reference token: it is the key as it stands.
+/// Whether there is no `~` in a reference token, so that it is the key itself.
 #[inline(always)]
 pub fn is_plain(token: &[u8]) -> bool
     ensures { IsTrue result ↔ IsPlain token.now }

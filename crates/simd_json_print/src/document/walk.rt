@@ -52,7 +52,7 @@ impl<'l> Nesting<'l> {
         self.levels[self.count - 1].end as usize
     }
 
-    /// With levels of which so many are in use.
+    /// With levels of which the first `count` are in use.
     pub(crate) fn over(levels: &'l mut [Level], count: usize) -> Nesting<'l>
         ensures same_levels { result.levels.ghost_name ≡ levels.entry.ghost_name }
         ensures levels { result.levels.now ≡ levels.old }
@@ -181,7 +181,7 @@ pub(crate) fn put_from<'tape, 'input, T: Target, const SIZE: usize, const PRETTY
     value
 }
 
-/// Puts what stands before the next value, and the ends of containers before that. Returns the
+/// Puts what is before the next value, and the ends of containers before that. Returns the
 /// nodes from the value on, and none at the end.
 #[inline(always)]
 pub(crate) fn put_up_to_value<'tape, 'input, T: Target, const SIZE: usize, const PRETTY: bool>(

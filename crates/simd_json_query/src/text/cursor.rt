@@ -1,5 +1,6 @@
 //! A text from which characters are read at the front.
-ghost use Rattle.std.specs.Prelude.{◌≡◌, ◌<◌, ◌≤◌, ◌++◌, IfSome, MatchOption, encode_utf8, [], length};
+ghost use Rattle.std.specs.Prelude.{◌≡◌, ◌<◌, ◌≤◌, ◌++◌, [], length, encode_utf8};
+ghost use Rattle.std.specs.Prelude.{IfSome, MatchOption};
 ghost use Rattle.simd_json_parts.specs.Bytes.{is_whitespace};
 ghost use Rattle.simd_json_query.specs.Steps.{Blanks};
 ghost use Rattle.simd_json_query.specs.Spans.{Mark};

@@ -1,5 +1,6 @@
 //! Integers (RFC 9535, section 2.3.3.1): no leading zero, and exact as floating-point numbers.
-ghost use Rattle.std.specs.Prelude.{◌≡◌, ◌<◌, ◌≤◌, ◌^◌, ◌++◌, ℕ, List, ◌∷◌, length, IfOk, encode_utf8, neg_ℤ, pos};
+ghost use Rattle.std.specs.Prelude.{◌≡◌, ◌<◌, ◌≤◌, ◌^◌, ◌++◌, ◌∷◌, ℕ, List, length, IfOk};
+ghost use Rattle.std.specs.Prelude.{encode_utf8, neg_ℤ, pos};
 ghost use Rattle.std.specs.Char.{digit_value};
 ghost use Rattle.simd_json_query.specs.Choices.{Optional};
 ghost use Rattle.simd_json_query.specs.Steps.{Integer, Natural};

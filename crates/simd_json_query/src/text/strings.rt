@@ -1,5 +1,6 @@
 //! Names in quotes (RFC 9535, section 2.3.1.1).
-ghost use Rattle.std.specs.Prelude.{◌≡◌, ◌≢◌, ◌<◌, ◌≤◌, ◌++◌, length, List, ℕ, IfOk, IfSome, encode_utf8};
+ghost use Rattle.std.specs.Prelude.{◌≡◌, ◌≢◌, ◌<◌, ◌≤◌, ◌++◌, length, List, ℕ};
+ghost use Rattle.std.specs.Prelude.{IfOk, IfSome, encode_utf8};
 ghost use Rattle.simd_json_parts.specs.Bytes.{backslash, byte_at};
 ghost use Rattle.simd_json_query.specs.Steps.{Escaped, Piece, Quoted, StringText};
 ghost use Rattle.simd_json_query.specs.Spans.{Mark};

@@ -39,7 +39,7 @@ pub(crate) struct Machine<'m> {
 }
 
 impl Machine<'_> {
-    // Appends the key at the last token, reads its colon, and goes on to the first token of the
+    // Appends the key at the last token, reads its colon, and moves to the first token of the
     // value. If the last token is not a string, the fault is of this kind.
     #[inline(always)]
     fn read_key<K: Original, B: Builder>(

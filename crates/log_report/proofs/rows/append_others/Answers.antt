@@ -14,7 +14,8 @@ pub loop-selector-preserved : goal.loop-selector-preserved
 loop-selector-preserved c =
     let w = c.args.wanted.now in
     let d = doc c.args.value in
-    extends-more (after_mark (tab ∷ []) (column w d)) c.args.selectors.now c.loop-selector.selector-index _ c.args.row.now.items c.loop-selector.row.items
+    extends-more (after_mark (tab ∷ []) (column w d)) c.args.selectors.now c.loop-selector.selector-index _
+    c.args.row.now.items c.loop-selector.row.items
     c.append_cell.new.row.items (tab ∷ cell w (option_map doc c.select.result)) c.loop-selector-test.true c.loop-selector.invariant
     (extends-then c.loop-selector.row.items c.append.new.row.items c.append_cell.new.row.items (tab ∷ []) _ c.append.ensures
     c.in_ok-append_cell.ensures)

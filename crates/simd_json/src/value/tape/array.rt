@@ -29,7 +29,7 @@ impl<'tape, 'input> Array<'tape, 'input> {
     /// The value at an index, in time linear in the index, or `None` where the array has no more
     /// than `index` values.
     ///
-    /// The values before it are passed over, each in one step whatever it holds. To look at all of
+    /// The values before it are skipped, each in one step whatever it holds. To look at all of
     /// them, use [`iter`](Array::iter).
     pub fn get(&self, index: usize) -> Option<Value<'tape, 'input>>
         ensures { option_map doc result ≡ slice_get (elements (docs self.now)) index }

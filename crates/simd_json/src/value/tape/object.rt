@@ -31,8 +31,8 @@ impl<'tape, 'input> Object<'tape, 'input> {
 
     /// The value of the first pair with that key, or `None` where the key is missing. Linear time.
     ///
-    /// The pairs before it are passed over, each in one step whatever its value holds. Only the
-    /// bytes of keys of the same length are compared.
+    /// The pairs before it are skipped, each in one step whatever its value holds. Only the bytes
+    /// of keys of the same length are compared.
     pub fn get(&self, k: &str) -> Option<Value<'tape, 'input>>
         ensures { option_map doc result ≡ first_with k.now (pairs self.now) }
     {

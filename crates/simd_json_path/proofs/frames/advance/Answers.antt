@@ -4,7 +4,8 @@ use Rattle.simd_json.specs.Viewed.{doc}
 use Rattle.simd_json_path.specs.Frames.{frames_effort, frames_left}
 use Rattle.simd_json_path.specs.Leaves.{leaf_left}
 use Rattle.simd_json_path.specs.Room.{selected_in}
-use Rattle.simd_json_path.proofs.Stacks.{selected-here, selected-bare, selected-scalar, selected-full, same-place, passed-left, passed-effort}
+use Rattle.simd_json_path.proofs.Stacks.{selected-here, selected-bare, selected-scalar, selected-full}
+use Rattle.simd_json_path.proofs.Stacks.{same-place, passed-left, passed-effort}
 use Rattle.simd_json_path.proofs.frames.advance.Goals as goal
 
 -- ---- the innermost frame is finished
@@ -107,7 +108,8 @@ frames-preserved-then-opened-frames c =
     record {
       none = c.frames.invariant.none;
       within = omega arith;
-      left = passed-left root room n old new (omega arith) kept (omega arith) _ none (c.in-Some.ensures.left room) ∙ c.frames.invariant.left;
+      left = passed-left root room n old new (omega arith) kept (omega arith) _ none (c.in-Some.ensures.left room)
+          ∙ c.frames.invariant.left;
     }
 
 pub frames-smaller-then-is_bare : goal.frames-smaller-then-is_bare

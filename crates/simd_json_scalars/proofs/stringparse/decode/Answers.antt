@@ -9,7 +9,8 @@ plain_end-plain-requires c = opened c.args.unread.now c.requires.opening c.requi
 pub returns-in-Ok-clause-string : goal.returns-in-Ok-clause-string
 returns-in-Ok-clause-string c b i e =
     let d = decoded-further _ _ _ _ _ _ _ _ _ c.plain_end-plain.ensures.1 c.in-Ok.ensures.0 in
-    let read = string_at-shared b c.args.unread.now c.unescape.new.unread _ _ i _ _ _ e c.requires.opening d c.in-Ok.ensures.1 refl refl refl in
+    let read = string_at-shared b c.args.unread.now c.unescape.new.unread _ _ i _ _ _ e c.requires.opening d
+    c.in-Ok.ensures.1 refl refl refl in
     record {
       string = read.0;
       utf8 = decoded-string _ _ _ _ d;

@@ -20,7 +20,8 @@ returns-in_err-put_name g c = λ sound.
     ∙ subst (λ r. IfOk r (λ words. words.items ≡ why c.as_slice-line.result.now c.args.error))
     (mapped c.rejection_words.result c.map_err.result _ _ c.map_err.ensures.cases c.in_ok-words.was) c.rejection_words.ensures
     ∙ ap (λ text. why text c.args.error) c.as_slice-line.ensures.value in
-    let line : old.file.now ++ c.as_slice.result.now ≡ rejection_line old.wanted.now old.file.now old.number old.original.items c.args.error =
+    let line : old.file.now ++ c.as_slice.result.now
+    ≡ rejection_line old.wanted.now old.file.now old.number old.original.items c.args.error =
     ap (λ us. old.file.now ++ us) words in
     let failed = c.in_err-put_name.ensures sound in
     handed-on c.from_residual-in_err-put_name.result _ _ _ _ c.from_residual-in_err-put_name.ensures.1 (λ e is. is ∙ failed.0)
@@ -36,7 +37,8 @@ returns-in_err-add g c = λ sound.
     ∙ subst (λ r. IfOk r (λ words. words.items ≡ why c.as_slice-line.result.now c.args.error))
     (mapped c.rejection_words.result c.map_err.result _ _ c.map_err.ensures.cases c.in_ok-words.was) c.rejection_words.ensures
     ∙ ap (λ text. why text c.args.error) c.as_slice-line.ensures.value in
-    let line : old.file.now ++ c.as_slice.result.now ≡ rejection_line old.wanted.now old.file.now old.number old.original.items c.args.error =
+    let line : old.file.now ++ c.as_slice.result.now
+    ≡ rejection_line old.wanted.now old.file.now old.number old.original.items c.args.error =
     ap (λ us. old.file.now ++ us) words in
     let all = c.in_ok-put_name.ensures sound in
     handed-on c.from_residual-in_err-add.result _ _ _ _ c.from_residual-in_err-add.ensures.1
@@ -52,7 +54,8 @@ returns g c = λ sound.
     ∙ subst (λ r. IfOk r (λ words. words.items ≡ why c.as_slice-line.result.now c.args.error))
     (mapped c.rejection_words.result c.map_err.result _ _ c.map_err.ensures.cases c.in_ok-words.was) c.rejection_words.ensures
     ∙ ap (λ text. why text c.args.error) c.as_slice-line.ensures.value in
-    let line : old.file.now ++ c.as_slice.result.now ≡ rejection_line old.wanted.now old.file.now old.number old.original.items c.args.error =
+    let line : old.file.now ++ c.as_slice.result.now
+    ≡ rejection_line old.wanted.now old.file.now old.number old.original.items c.args.error =
     ap (λ us. old.file.now ++ us) words in
     let all = c.in_ok-put_name.ensures sound in
     let added = c.in_ok-add.ensures in (

@@ -1,4 +1,4 @@
-use Rattle.std.proofs.Common.{◌≡◌, ◌≤◌, ap, refl, sym, Err, arith, length}
+use Rattle.std.proofs.Common.{refl, sym, Err, arith}
 use Rattle.simd_json_ondemand.proofs.Leading.{container-at, document-at, document-stops, document-there, is-led, walk-at}
 use Rattle.simd_json_ondemand.proofs.Leading.{walk-stops, walk-there}
 use Rattle.simd_json_ondemand.proofs.value.Value.follow.Goals as goal

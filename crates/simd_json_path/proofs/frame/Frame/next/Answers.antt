@@ -40,7 +40,8 @@ returns-clause-effort c room =
     (children_left c.of-self.result) (doc old.opened.value) _ c.if-self.false c.if-not-self.false c.in_default.ensures.next.0
     (ap doc c.in_default.ensures.value) c.of-self.ensures in
     subst
-    (λ n. MatchOption c.next_below-2.result (frame_left root room old ≡ []) (λ r. n ≡ effort root room r.0.now (doc r.1) + frame_effort root room new))
+    (λ n. MatchOption c.next_below-2.result (frame_left root room old ≡ [])
+    (λ r. n ≡ effort root room r.0.now (doc r.1) + frame_effort root room new))
     (sym effort-same)
     (subst
     (λ xs. MatchOption c.next_below-2.result (xs ≡ [])

@@ -21,8 +21,8 @@ digits-preserved c =
       search rules,
       omega arith,
       omega arith,
-      rw is (read-more c.args.first c.digits.value c.args.others.now c.digits.left.now c.in-Some.behind.now c.in-Some.next c.digits.invariant.3
-          c.in-Some-to_digit.ensures.value.0 c.in-Some.ensures.character),
+      rw is (read-more c.args.first c.digits.value c.args.others.now c.digits.left.now c.in-Some.behind.now c.in-Some.next
+          c.digits.invariant.3 c.in-Some-to_digit.ensures.value.0 c.in-Some.ensures.character),
       omega (arith, c.in-Some.ensures.shorter, c.digits.invariant.4),
     )
 

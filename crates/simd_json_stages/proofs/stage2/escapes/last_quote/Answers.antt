@@ -29,7 +29,16 @@ pub bounds-rest-last-in-back : goal.bounds-rest-last-in-back
 bounds-rest-last-in-back c =
     let q = c.requires in
     let upto = c.back.invariant.upto q.b q.reads.0 q.string in
-    omega (arith, ap length q.reads.0, q.reads.1, length-drop c.args.base q.b, q.string.later, q.string.within, upto, c.back.invariant.below)
+    omega (
+      arith,
+      ap length q.reads.0,
+      q.reads.1,
+      length-drop c.args.base q.b,
+      q.string.later,
+      q.string.within,
+      upto,
+      c.back.invariant.below,
+    )
 
 pub overflow_sub-last-in-back : goal.overflow_sub-last-in-back
 overflow_sub-last-in-back c =
