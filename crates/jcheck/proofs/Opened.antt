@@ -1,6 +1,6 @@
 -- The last bracket that is not closed, as a loop over structural indexes finds it, from the last one on.
 use Rattle.std.proofs.Common.{◌≡◌, ◌∙◌, refl, ap, ℕ, ◌+◌, ◌-◌, ◌<◌, List, [], ◌∷◌, ◌++◌, reverse, take, length, get_or}
-use Rattle.std.proofs.Common.{Bool, true, false, not, cond, ◌==◌, Option, Some}
+use Rattle.std.proofs.Common.{Bool, not, cond, ◌==◌, Option, Some}
 use Rattle.std.proofs.lemmas.List.{take_more}
 use Rattle.simd_json_parts.specs.Bytes.{byte_at}
 use Rattle.jcheck.specs.Messages.{closes, last_open, opens}

@@ -257,7 +257,8 @@ impl FilePlace<'_> {
         kind: &ErrorType,
     ) -> Result<String, AllocError>
         ensures { IfOk result (λ text. string_bytes text
-            ≡ words_of self.entry.file.now self.entry.line self.entry.byte location.now opening kind.now
+            ≡ words_of self.entry.file.now self.entry.line self.entry.byte
+            location.now opening kind.now
             ++ line_feed ∷ []) }
     {
         let FilePlace { file, line, byte } = self;

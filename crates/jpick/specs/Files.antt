@@ -1,5 +1,5 @@
 -- How the program ends after runs over files.
-use Rattle.std.specs.Prelude.{ℕ, max, List, Bool, true, false, Result, Ok, Err}
+use Rattle.std.specs.Prelude.{ℕ, max, List, Bool, true, false, Result, Err}
 use Rattle.jsonl.specs.Failures.{run_status}
 use Rattle.jsonl.specs.Turns.{HasRunEach}
 use Rattle.jsonl.specs.declared.failure.Failure.{Failure}

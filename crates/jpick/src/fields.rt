@@ -18,13 +18,13 @@ use std::alloc::{AllocError, Allocator};
 pub struct Wanted<'a> {
     /// What selects the values.
     pub queries: &'a [Query<'a>],
-    /// Lines that do not pass them all are passed over.
+    /// Lines that do not pass them all are skipped.
     pub filters: &'a [Filter<'a>],
     /// How the values of a line are printed.
     pub layout: Layout,
     /// Whether a string is printed as its text, if the layout is [`Layout::Tabs`].
     pub is_raw: bool,
-    /// Whether a line is passed over if a query selects nothing of it.
+    /// Whether a line is skipped if a query selects nothing of it.
     pub needs_all: bool,
     /// Whether rejected lines are not named.
     pub is_quiet: bool,
@@ -213,7 +213,7 @@ fn append_byte<A: Allocator>(
     }
 }
 
-// What stands for a byte, if not the byte itself.
+// What is written for a byte, if not the byte itself.
 fn escape_of(layout: Layout, byte: u8) -> Option<&'static [u8]>
     ensures { option_map (λ escape. escape.now) result ≡ escape_of layout byte }
 {

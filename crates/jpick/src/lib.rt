@@ -1,7 +1,7 @@
 //! The values that JSON Pointers and JSONPaths select of each line of JSON Lines, or of documents.
 //!
-//! - [`run`]: writes rows of them for each line of a reader, or for its one document, and names what
-//!   is rejected.
+//! - [`run`]: writes rows of them for each line of a reader, or for its one document, and names
+//!   what is rejected.
 //! - [`write_header`]: writes the row of the queries before it.
 //! - [`pick_each`]: a run for each file, and the greatest status.
 //! - [`asked`]: what the program's arguments ask for.

@@ -22,7 +22,8 @@ const STANDARD_INPUT: &str = "-";
 const LONGEST: u32 = 65_536;
 
 const QUERY_HELP: &str =
-    "What is printed: a JSON Pointer (RFC 6901), as /user/name, or a JSONPath (RFC 9535), as $.users[*].name";
+    "What is printed: a JSON Pointer (RFC 6901), as /user/name, or a JSONPath (RFC 9535), as \
+     $.users[*].name";
 
 const AND_HELP: &str = "A further query, in a column of its own";
 
@@ -312,8 +313,8 @@ fn filter_named<'a>(arena: &'a Bump, text: &'a str) -> Result<Filter<'a>, Unaske
     }
 }
 
-// Whether one of the texts is no JSON Pointer and has `..`: a filter's query that has it takes stack
-// for each level of a document.
+// Whether one of the texts is no JSON Pointer and has `..`: a filter's query that has it takes
+// stack for each level of a document.
 fn any_descends(texts: &[&str]) -> bool {
     for text in texts {
         let bytes = text.as_bytes();

@@ -42,7 +42,8 @@ impl<'a> Query<'a> {
         }
     }
 
-    // How many frames suffice for a document in which so many arrays and objects are nested.
+    // How many frames suffice for a document whose arrays and objects are nested at most `depth`
+    // deep.
     fn frames(&self, depth: usize) -> usize
         ensures { result ≡ min (frames_of self.now depth) (2 ^ 64 - 1) }
     {
@@ -106,8 +107,8 @@ fn is_single(selectors: &[Selector<'_>]) -> bool
     }
 }
 
-/// How many frames suffice for each query, in a document in which so many arrays and objects are
-/// nested. It is `usize::MAX` where it would be more.
+/// How many frames suffice for each query, in a document whose arrays and objects are nested at
+/// most `depth` deep. It is `usize::MAX` where it would be more.
 pub fn frames(queries: &[Query<'_>], depth: usize) -> usize
     ensures { list_all (has_frames result depth) queries.now ≡ true }
 {

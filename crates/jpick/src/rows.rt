@@ -1,5 +1,6 @@
 //! The rows of a document.
-ghost use Rattle.std.specs.Prelude.{◌≡◌, ◌≤◌, ◌∷◌, ◌++◌, [], length, true, OnOk, Some, flat_map, option_map};
+ghost use Rattle.std.specs.Prelude.{◌≡◌, ◌≤◌, ◌∷◌, ◌++◌, [], length, true, OnOk, Some};
+ghost use Rattle.std.specs.Prelude.{flat_map, option_map};
 ghost use Rattle.std.specs.List.{list_all};
 ghost use Rattle.jsonl.specs.Cells.{after_mark, cells};
 ghost use Rattle.simd_json.specs.Viewed.{doc};

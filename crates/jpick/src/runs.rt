@@ -9,8 +9,8 @@ use jsonl::{Channel, Failure, Lines, Step, read_all};
 use std::alloc::Allocator;
 use std::io::{Read, Write};
 
-/// Writes the rows of the lines of a reader, or of its one document, and names each rejected text on
-/// `rejections`. Returns whether none was rejected.
+/// Writes the rows of the lines of a reader, or of its one document, and names each rejected text
+/// on `rejections`. Returns whether none was rejected.
 ///
 /// Fails with `Read` if reading fails, with `Write` if writing rows does, or with `Closed` in its
 /// place, with `Name` if naming a rejected text does, and with `Resources` if an allocation fails,

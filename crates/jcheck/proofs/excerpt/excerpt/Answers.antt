@@ -1,5 +1,4 @@
 use Rattle.std.proofs.Common.{◌∙◌, ap, take, false}
-use Rattle.std.specs.List.{repeat}
 use Rattle.std.specs.Str.{chars}
 use Rattle.std.proofs.lemmas.Result.{IfOk-weaker}
 use Rattle.jcheck.proofs.Texts.{excerpt-is}

@@ -1,4 +1,4 @@
-use Rattle.std.proofs.Common.{◌++◌, ◌+◌, [], ap, append-nil, arith, map, subst, sym, take, ◌≡◌, ◌∙◌, length, Bor, List, ℕ}
+use Rattle.std.proofs.Common.{◌++◌, ◌+◌, [], ap, append-nil, arith, map, subst, sym, take, ◌≡◌, ◌∙◌, Bor, List, ℕ}
 use Rattle.std.proofs.Math.Seq.{take-length}
 use Rattle.std.specs.List.{AllZip}
 use Rattle.jpick.specs.Asked.{IsQueryOf}

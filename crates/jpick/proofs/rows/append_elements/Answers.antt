@@ -1,4 +1,4 @@
-use Rattle.std.proofs.Common.{◌≡◌, ◌∙◌, ◌++◌, ap, length, refl, sym}
+use Rattle.std.proofs.Common.{◌∙◌, ◌++◌, ap, length, refl, sym}
 use Rattle.simd_json.specs.Viewed.{doc}
 use Rattle.simd_json_parts.specs.Printed.{compact}
 use Rattle.simd_json_path.specs.Left.{item_of, selected_left}

@@ -1,4 +1,4 @@
-use Rattle.std.proofs.Common.{◌≡◌, ◌∙◌, [], ap, inr, refl, rules, subst, sym, Ok}
+use Rattle.std.proofs.Common.{◌≡◌, ◌∙◌, [], ap, inr, rules, subst, sym, Ok}
 use Rattle.std.specs.Io.KnownBytes.{Appends}
 use Rattle.std.specs.Prelude.{IfOk}
 use Rattle.jsonl.proofs.Calls.{failed-as, mapped}

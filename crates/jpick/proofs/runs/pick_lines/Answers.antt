@@ -100,7 +100,8 @@ returns-in_err-write-in-Block g c =
     let moves = subst (Moves c.loop.lines c.next.new.self c.loop.line.items c.next.new.line.items (g.R.Read.remaining c.loop.reader.inner)
     (g.R.Read.remaining c.next.new.reader.inner)) c.in-Block.is c.in_ok-next.ensures.1 in
     let failed = c.in_err-write-in-Block.ensures c.loop.invariant.out in
-    let stopped = block-stopped c.args.wanted.now c.args.file.now c.loop.picker c.requires.lines c.next.new.self c.loop.invariant.picked moves failed.2 in
+    let stopped = block-stopped c.args.wanted.now c.args.file.now c.loop.picker c.requires.lines c.next.new.self
+    c.loop.invariant.picked moves failed.2 in
     writing-stopped _ _ _ _ _ _ _ _ _ _ _ _ c.from_residual-in_err-write-in-Block.result _ _
     c.from_residual-in_err-write-in-Block.ensures.1 failed.0 failed.1 c.in_ok-next.ensures.0 c.loop.invariant.rejections stopped.0 stopped.1
 

@@ -12,5 +12,6 @@ returns c =
     let reason = c.reason-reason.result in
     IfOk-weaker c.format.result _ _
     (λ t is. is
-    ∙ words-is file line byte c.args.location.now column reason c.args.opening c.args.kind.now c.column-column.ensures c.reason-reason.ensures)
+    ∙ words-is file line byte c.args.location.now column reason c.args.opening c.args.kind.now
+    c.column-column.ensures c.reason-reason.ensures)
     c.format.ensures.ok

@@ -1,4 +1,4 @@
-use Rattle.std.proofs.Common.{◌≡◌, ◌∙◌, ◌++◌, ap, append-nil, sym, true}
+use Rattle.std.proofs.Common.{◌∙◌, ◌++◌, ap, append-nil, sym, true}
 use Rattle.jsonl.specs.Rejections.{rejection_words}
 use Rattle.jpick.specs.Picked.{hint}
 use Rattle.jpick.proofs.lines.Picker.naming_words.Goals as goal

@@ -1,4 +1,4 @@
-use Rattle.std.proofs.Common.{◌≡◌, ◌∙◌, ◌++◌, ap, arith, refl, rules, subst, sym, List, ℕ}
+use Rattle.std.proofs.Common.{◌≡◌, ◌∙◌, ◌++◌, ap, arith, refl, subst, sym, List, ℕ}
 use Rattle.std.specs.Prelude.{IfNone, Option, Some}
 use Rattle.std.specs.Result.{result_err}
 use Rattle.simd_json.specs.Parsed.{HasMemory, IsParsed}

@@ -1,4 +1,4 @@
-use Rattle.std.proofs.Common.{◌++◌, ◌∙◌, [], ap, map, rules, subst, sym, Bor, List, ℕ}
+use Rattle.std.proofs.Common.{◌++◌, ◌∙◌, [], ap, map, rules, subst, sym, List, ℕ}
 use Rattle.std.specs.List.{AllZip}
 use Rattle.std.specs.Prelude.{codes}
 use Rattle.clap.specs.Matches.{found_of}
