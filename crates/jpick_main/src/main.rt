@@ -43,7 +43,8 @@ fn program(rt: &HostRuntime, words: &[String]) -> u8 {
         }
         Err(Unasked::TooDeep(depth)) => {
             let _ = eprintln!(rt;
-                "jpick: depth {depth} and the segments of a query with `..` are together more than 1088"
+                "jpick: depth {depth} and the segments of a query with `..` are together more \
+                 than 1088"
             );
             2
         }

@@ -2,7 +2,7 @@
 use anyhow::{Context, Result};
 use std::alloc::{AllocError, Global};
 
-/// The bytes that an input stands for.
+/// The bytes that an input denotes.
 pub fn decoded(alloc: Global, input: &str) -> Result<Vec<u8>> {
     let mut bytes = Vec::new(alloc);
     let mut is_first = true;

@@ -27,7 +27,7 @@ impl Rows {
         })
     }
 
-    /// The row with the result that is found, or another line as it stands.
+    /// The row with the result that is found, or another line as it is.
     pub fn answered(&mut self, line: &str) -> Result<String> {
         if line.is_empty() || line.starts_with("#") {
             return Ok(line.to_string(self.alloc)?);
