@@ -150,7 +150,7 @@ fn node_in<'i>(input: &'i [u8], node: KeptNode) -> Node<'i>
     }
 }
 
-// The text of so many bytes from an index on.
+// The text of `len` bytes from index `at` on.
 #[inline(always)]
 fn text_at<'i>(input: &'i [u8], at: usize, len: usize) -> &'i str
     requires { IsTextAt input.now at len }

@@ -49,12 +49,14 @@
 //!
 //! # Costs
 //!
-//! - A read takes 32 bytes for each node, 8 for each container that is open, and what the type owns.
-//! - A string is decoded in the input's own bytes, and borrowed from there: only a type that owns it
-//!   copies it. So the input's bytes are not kept, and a type that borrows ends before the input is
-//!   written again.
-//! - `serde` tests the UTF-8 of each borrowed string again: to borrow takes 0.98 times as long as to
-//!   own for lines of a log, and 1.02 to 1.1 times for tweets, of which much is not ASCII.
+//! - A read takes 32 bytes for each node, 8 for each container that is open, and what the type
+//!   owns.
+//! - A string is decoded in the input's own bytes, and borrowed from there: only a type that owns
+//!   it copies it. So the input's bytes are not kept, and a type that borrows ends before the input
+//!   is written again.
+//! - `serde` tests the UTF-8 of each borrowed string again: to borrow took 0.92 to 0.97 times as
+//!   long as to own for lines of a log, and 1.01 to 1.12 times for tweets, of which much is not
+//!   ASCII.
 //! - A read of a tape, as [`from_value`], takes no memory for nodes.
 //!
 //! # Differences from `serde_json`

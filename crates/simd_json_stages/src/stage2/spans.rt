@@ -281,8 +281,8 @@ fn hand_decimal<S: SpanSink>(nodes: &mut S, bytes: &mut [u8], at: usize, len: us
     nodes.push_decimal(at, literal);
 }
 
-// The same as an integer of 128 bits. It is rare, so not inlined, and takes these references and not
-// the builder, since what is passed by reference to such a call is kept in memory.
+// The same as an integer of 128 bits. It is rare, so not inlined, and takes these references and
+// not the builder, since what is passed by reference to such a call is kept in memory.
 #[cold]
 #[inline(never)]
 fn hand_long<S: SpanSink>(nodes: &mut S, bytes: &mut [u8], at: usize, len: usize, value: StaticNode)
