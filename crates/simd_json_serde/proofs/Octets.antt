@@ -128,7 +128,8 @@ taken-bytes bs old mid new opens are ends closed =
     let new_outer : new.outer ≡ old.outer = sym outer.0 in
     let new_key : new.at_key ≡ false = closed.4 ∙ mid_key in
     let count : opens.1 ≡ length bs = omega arith in
-    let whole : new ≡ record old { at = old.at + 1 + length bs; at_key = false } = rebuilt new _ new_nodes new_at new_end new_outer new_key in
+    let whole : new ≡ record old { at = old.at + 1 + length bs; at_key = false } =
+    rebuilt new _ new_nodes new_at new_end new_outer new_key in
     let said : AreBytesAt old.nodes (old.at + 1) bs =
     subst (λ ns. AreBytesAt ns (old.at + 1) bs) mid_nodes (subst (λ a. AreBytesAt mid.nodes a bs) mid_at are) in
     inr ((opens.0, opens.2, opens.3 ∙ ap (λ c. Some (array_item opens.0 c)) count, said), whole)

@@ -30,7 +30,7 @@ use crate::numbers::is_integer_key;
 use serde::{Format, Kind, Name};
 use simd_json::{Node, StaticNode, ValueType};
 use std::alloc::Global;
-use std::num::{nearest_i64_to_f32, nearest_i64_to_f64, nearest_u64_to_f32, nearest_u64_to_f64};
+use std::num::{nearest_i64_to_f32, nearest_u64_to_f32};
 
 impl<'n, 'i> Format for NodeReader<'n, 'i> {
     type Error = Fault;
@@ -525,54 +525,6 @@ impl<'n, 'i> Format for NodeReader<'n, 'i> {
 }
 
 impl<'n, 'i> NodeReader<'n, 'i> {
-    // As `u64`, of any node. Most integers are without a sign and of 64 bits, so it is out of line.
-    #[cold]
-    #[inline(never)]
-    fn other_u64(&mut self) -> Result<u64, Fault>
-        ensures given { IfOk result
-            (λ v. ReadsAs (place self.old) (unsigned_event v) (place self.new)) }
-        ensures exact { self.old.at_key ≡ false
-            → result_ok result ≡ ahead (unsigned 64) (place self.old) }
-        ensures place { IfErr result (IsOfNext self.old) }
-    {
-        let at_key = self.at_key;
-        match self.take()? {
-            Node::Static(StaticNode::U64(n)) => Ok(n),
-            Node::Static(StaticNode::I64(n)) => self.fitting(u64::try_from(n).ok()),
-            Node::Static(StaticNode::I128(n)) => self.fitting(u64::try_from(n).ok()),
-            Node::Static(StaticNode::U128(n)) => self.fitting(u64::try_from(n).ok()),
-            Node::String(key) if at_key && is_integer_key(key) => match key.parse::<u64>() {
-                Ok(n) => Ok(n),
-                Err(_) => Err(self.fault(MismatchKind::InvalidValue)),
-            },
-            other => Err(self.unexpected(ValueType::U64, other)),
-        }
-    }
-
-    // As `f64`, of any node. Most floats are decimals, so it is out of line.
-    #[cold]
-    #[inline(never)]
-    fn other_f64(&mut self) -> Result<f64, Fault>
-        ensures given { IfOk result (λ v. ReadsAs (place self.old) (double v) (place self.new)) }
-        ensures exact { result_ok result ≡ ahead (float binary64) (place self.old) }
-        ensures place { IfErr result (IsOfNext self.old) }
-    {
-        match self.take()? {
-            Node::Decimal(literal) => self.nearest_f64(literal),
-            Node::Static(StaticNode::I64(n)) => Ok(nearest_i64_to_f64(n)),
-            Node::Static(StaticNode::U64(n)) => Ok(nearest_u64_to_f64(n)),
-            Node::Static(StaticNode::I128(n)) => {
-                let mut digits = itoa::Buffer::new();
-                self.nearest_f64(digits.format(n))
-            }
-            Node::Static(StaticNode::U128(n)) => {
-                let mut digits = itoa::Buffer::new();
-                self.nearest_f64(digits.format(n))
-            }
-            other => Err(self.unexpected(ValueType::Decimal, other)),
-        }
-    }
-
     // The integers of the array that is open, as bytes.
     fn bytes_inside(&mut self, alloc: Global, input: &[u8]) -> Result<Vec<u8>, Fault>
         requires at { self.old.at ≤ self.old.end }

@@ -25,6 +25,7 @@
 //! |---|---|
 //! | a type that owns its strings | [`from_slice_owned`] |
 //! | a type that borrows strings, as `&str` or `CowStr` | [`from_slice`] |
+//! | its strings, where much of them is not ASCII | [`borrowed_str`] |
 //! | many inputs with the same memory | [`read_owned`], [`read`] with [`Kept`] |
 //! | a value of a tape, as one that `pointer` leads to | [`from_value`] |
 //! | a whole tape | [`from_tape`] |
@@ -54,9 +55,9 @@
 //! - A string is decoded in the input's own bytes, and borrowed from there: only a type that owns
 //!   it copies it. So the input's bytes are not kept, and a type that borrows ends before the input
 //!   is written again.
-//! - `serde` tests the UTF-8 of each borrowed string again: to borrow took 0.92 to 0.97 times as
-//!   long as to own for lines of a log, and 1.01 to 1.12 times for tweets, of which much is not
-//!   ASCII.
+//! - `serde` tests the UTF-8 of each borrowed string again, by characters. To borrow took 0.95 to
+//!   0.99 times as long as to own for lines of a log, 1.05 to 1.08 times for tweets, of which much
+//!   is not ASCII, and by [`borrowed_str`] 0.97 to 0.98 times for these.
 //! - A read of a tape, as [`from_value`], takes no memory for nodes.
 //!
 //! # Differences from `serde_json`
@@ -103,7 +104,9 @@ mod writing;
 
 pub use error::{Error, Fault, Mismatch, MismatchKind};
 pub use node_reader::{Mark, NodeReader};
-pub use reading::{Kept, from_slice, from_slice_owned, from_tape, from_value, read, read_owned};
+pub use reading::{
+    Kept, borrowed_str, from_slice, from_slice_owned, from_tape, from_value, read, read_owned,
+};
 pub use scalars::{
     bool_of, char_of, f32_of, f64_of, i8_of, i16_of, i32_of, i64_of, i128_of, string_of, u8_of,
     u16_of, u32_of, u64_of, u128_of,

@@ -39,8 +39,8 @@ impl<'n, 'i> Nodes<'n, 'i> {
         }
     }
 
-    /// The text of the node with an index, if that is a string. Such calls, one for each kind that is
-    /// common, build no [`Node`]: to build and match one takes longer than the rest of a step.
+    /// The text of the node with an index, if that is a string. Such calls, one for each kind that
+    /// is common, build no [`Node`]: to build and match one takes longer than the rest of a step.
     #[inline(always)]
     pub(crate) fn string(&self, at: usize) -> Option<&'i str>
         ensures { option_map (λ s. s.now) result

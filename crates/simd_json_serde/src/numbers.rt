@@ -1,14 +1,18 @@
 //! Numbers beside those that a node holds as they are: integers of other types, the float nearest
 //! to a literal, and integers as keys.
-ghost use Rattle.std.specs.Prelude.{◌≡◌, IfErr, IfOk};
+ghost use Rattle.std.specs.Prelude.{◌≡◌, false, IfErr, IfOk};
 ghost use Rattle.std.specs.Result.{result_ok};
 ghost use Rattle.std.specs.Float.{binary32, binary64};
-ghost use Rattle.simd_json_serde.specs.Ahead.{nearest};
-ghost use Rattle.simd_json_serde.specs.Faults.{reader_fault};
-ghost use Rattle.simd_json_serde.specs.Steps.{IsNearest};
+ghost use Rattle.serde.specs.Event.{double, unsigned as unsigned_event};
+ghost use Rattle.simd_json_serde.specs.Ahead.{ahead, float, nearest, unsigned};
+ghost use Rattle.simd_json_serde.specs.Faults.{IsOfNext, reader_fault};
+ghost use Rattle.simd_json_serde.specs.Places.{place};
+ghost use Rattle.simd_json_serde.specs.Steps.{IsNearest, ReadsAs};
 
 use crate::error::{Fault, MismatchKind};
 use crate::node_reader::NodeReader;
+use simd_json::{Node, StaticNode, ValueType};
+use std::num::{nearest_i64_to_f64, nearest_u64_to_f64};
 
 impl<'n, 'i> NodeReader<'n, 'i> {
     // An integer, if it fits the type that is read.
@@ -20,6 +24,54 @@ impl<'n, 'i> NodeReader<'n, 'i> {
         match number {
             Some(number) => Ok(number),
             None => Err(self.fault(MismatchKind::InvalidValue)),
+        }
+    }
+
+    // As `u64`, of any node. Most integers are without a sign and of 64 bits, so it is out of line.
+    #[cold]
+    #[inline(never)]
+    pub(crate) fn other_u64(&mut self) -> Result<u64, Fault>
+        ensures given { IfOk result
+            (λ v. ReadsAs (place self.old) (unsigned_event v) (place self.new)) }
+        ensures exact { self.old.at_key ≡ false
+            → result_ok result ≡ ahead (unsigned 64) (place self.old) }
+        ensures place { IfErr result (IsOfNext self.old) }
+    {
+        let at_key = self.at_key;
+        match self.take()? {
+            Node::Static(StaticNode::U64(n)) => Ok(n),
+            Node::Static(StaticNode::I64(n)) => self.fitting(u64::try_from(n).ok()),
+            Node::Static(StaticNode::I128(n)) => self.fitting(u64::try_from(n).ok()),
+            Node::Static(StaticNode::U128(n)) => self.fitting(u64::try_from(n).ok()),
+            Node::String(key) if at_key && is_integer_key(key) => match key.parse::<u64>() {
+                Ok(n) => Ok(n),
+                Err(_) => Err(self.fault(MismatchKind::InvalidValue)),
+            },
+            other => Err(self.unexpected(ValueType::U64, other)),
+        }
+    }
+
+    // As `f64`, of any node. Most floats are decimals, so it is out of line.
+    #[cold]
+    #[inline(never)]
+    pub(crate) fn other_f64(&mut self) -> Result<f64, Fault>
+        ensures given { IfOk result (λ v. ReadsAs (place self.old) (double v) (place self.new)) }
+        ensures exact { result_ok result ≡ ahead (float binary64) (place self.old) }
+        ensures place { IfErr result (IsOfNext self.old) }
+    {
+        match self.take()? {
+            Node::Decimal(literal) => self.nearest_f64(literal),
+            Node::Static(StaticNode::I64(n)) => Ok(nearest_i64_to_f64(n)),
+            Node::Static(StaticNode::U64(n)) => Ok(nearest_u64_to_f64(n)),
+            Node::Static(StaticNode::I128(n)) => {
+                let mut digits = itoa::Buffer::new();
+                self.nearest_f64(digits.format(n))
+            }
+            Node::Static(StaticNode::U128(n)) => {
+                let mut digits = itoa::Buffer::new();
+                self.nearest_f64(digits.format(n))
+            }
+            other => Err(self.unexpected(ValueType::Decimal, other)),
         }
     }
 

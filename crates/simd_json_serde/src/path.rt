@@ -45,7 +45,8 @@ fn append_token(
     path: &mut String,
 ) -> Result<Option<usize>, AllocError>
     ensures { IfOk result (λ child. (d : Document) → BeginAt (items_of nodes.entry) at (listing d)
-        → IsStep (items_of nodes.entry) node d at (string_bytes path.old) (string_bytes path.new) child) }
+        → IsStep (items_of nodes.entry) node d at (string_bytes path.old)
+        (string_bytes path.new) child) }
 {
     if at >= node {
         return Ok(None);

@@ -1,7 +1,9 @@
 //! The entry points.
-ghost use Rattle.std.specs.Prelude.{◌≡◌, ◌≤◌, ◌<◌, ◌⊎◌, ℕ, length, OnOk, OnErr, IfErr};
+ghost use Rattle.std.specs.Prelude.{◌≡◌, ◌≤◌, ◌<◌, ◌⊎◌, ℕ, length, OnOk, OnErr, IfErr, IfOk};
 ghost use Rattle.std.specs.Vec.{vec_capacity};
 ghost use Rattle.std.specs.Result.{result_ok};
+ghost use Rattle.serde.specs.Event.{octets};
+ghost use Rattle.serde.specs.Steps.{Gives};
 ghost use Rattle.simd_json_check.specs.Capacities.{default_max_depth};
 ghost use Rattle.simd_json.specs.Capacities.{KeepsCapacities, capacity as buffer_capacity};
 ghost use Rattle.simd_json.specs.Viewed.{doc};
@@ -17,7 +19,7 @@ use crate::in_place::{InPlace, parse_in_place};
 use crate::kept_node::KeptNode;
 use crate::node_reader::NodeReader;
 use crate::nodes::Nodes;
-use serde::{Deserialize, DeserializeOwned, Deserializer};
+use serde::{Deserialize, DeserializeOwned, Deserializer, Format};
 use simd_json::tape::Value;
 use simd_json::{Buffers, DEFAULT_MAX_DEPTH, Tape};
 use std::alloc::{AllocError, Global};
@@ -45,6 +47,34 @@ pub fn from_slice_owned<T: DeserializeOwned>(alloc: Global, input: &mut [u8]) ->
 {
     let mut buffers = Buffers::empty(alloc, DEFAULT_MAX_DEPTH);
     read_owned(input, &mut buffers, &mut Kept::new(alloc))
+}
+
+/// Reads a field of type `&str`, in less time than `serde` where much of it is not ASCII: it tests
+/// UTF-8 by 64 bytes, not by characters.
+///
+/// ```
+/// use serde::Deserialize;
+///
+/// #[derive(Drop, Deserialize)]
+/// struct Tweet<'a> {
+///     id: u64,
+///     #[serde(deserialize_with = simd_json_serde::borrowed_str)]
+///     text: &'a str,
+/// }
+/// ```
+///
+/// Returns an error where the value is no string, or can't be borrowed: by [`from_slice`] and
+/// [`read`] each string can be, from a tape none.
+pub fn borrowed_str<'de, F: Format>(
+    _alloc: Global,
+    from: &mut Deserializer<'de, '_, F>,
+) -> Result<&'de str, F::Error>
+    ensures { IfOk result (λ text. Gives F.gives from.old (octets text.now) from.new) }
+{
+    match simdutf8::basic::from_utf8(from.borrowed_bytes()?) {
+        Ok(text) => Ok(text),
+        Err(_) => Err(from.invalid()),
+    }
 }
 
 /// Reads a type that borrows nothing from the document of a tape.

@@ -1,5 +1,6 @@
 //! The types, and the sums of their values.
 use serde::Deserialize;
+use simd_json_serde::borrowed_str;
 use std::convert::AsStr;
 
 /// A number that depends on what was read. It is the same for each form of a type.
@@ -40,6 +41,18 @@ struct User<S> {
     name: S,
     screen_name: S,
     followers_count: u32,
+}
+
+/// A string that is borrowed.
+#[derive(Drop, Deserialize)]
+pub(crate) struct Borrowed<'de>(#[serde(deserialize_with = borrowed_str)] &'de str);
+
+impl AsStr for Borrowed<'_> {
+    ghost text = { λ s. s.0.now };
+
+    fn as_str(&self) -> &str {
+        self.0
+    }
 }
 
 /// Outlines, as GeoJSON has them.

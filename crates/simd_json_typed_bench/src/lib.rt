@@ -19,7 +19,7 @@ mod forms;
 #[cfg(test)]
 mod tests;
 
-use forms::{Line, Map, Sum, Timeline};
+use forms::{Borrowed, Line, Map, Sum, Timeline};
 use serde::{Deserialize, DeserializeOwned};
 use simd_json::Buffers;
 use simd_json_serde::{Error, Kept};
@@ -45,7 +45,7 @@ pub extern "C" fn simd_json_typed_owned(
     sum.unwrap_or(NONE)
 }
 
-/// By `read`, into types that borrow them.
+/// By `read`, into types that borrow them, by `borrowed_str`.
 #[unsafe(no_mangle)]
 pub extern "C" fn simd_json_typed_borrowed(
     alloc: Global,
@@ -127,8 +127,8 @@ fn borrowed_one(
     kept: &mut Kept,
 ) -> Option<u64> {
     match form {
-        0 => summed(simd_json_serde::read::<Line<&str>>(text, buffers, kept)),
-        1 => summed(simd_json_serde::read::<Timeline<&str>>(text, buffers, kept)),
+        0 => summed(simd_json_serde::read::<Line<Borrowed<'_>>>(text, buffers, kept)),
+        1 => summed(simd_json_serde::read::<Timeline<Borrowed<'_>>>(text, buffers, kept)),
         _ => summed(simd_json_serde::read::<Map>(text, buffers, kept)),
     }
 }

@@ -1,9 +1,11 @@
 // Strings that are borrowed, with and without escapes, and reads into kept memory.
 use crate::tests::types::{Folder, Line};
 use crate::tests::{MEMORY, bytes_of, read_owned_from};
+use serde::Deserialize;
 use simd_json::{Buffers, Tape, to_tape};
 use simd_json_serde::{
-    Error, Kept, from_slice, from_slice_owned, from_tape, from_value, read, read_owned,
+    Error, Kept, borrowed_str, from_slice, from_slice_owned, from_tape, from_value, read,
+    read_owned,
 };
 use std::alloc::Global;
 use std::borrow::CowStr;
@@ -50,6 +52,13 @@ fn borrowed_strings_are_decoded(rt: HostRuntime) {
 
 const PAIRS: [u8; 50] = *br#"[["a\n","\u00e9\ud83d\ude00"],["",""],["x\\","/"]]"#;
 
+// More than 64 bytes, which are tested for UTF-8 in another way than fewer.
+const LONG: &str = r#"[["€
+","€€€€€€€€€€€€€€€€€€€€€€€€😀é"]]"#;
+
+#[derive(Drop, Deserialize)]
+struct Pair<'a>(&'a str, #[serde(deserialize_with = borrowed_str)] &'a str);
+
 // With each byte in turn in the place of each other one.
 #[test]
 fn borrowed_mutants_are_as_owned(rt: HostRuntime) {
@@ -63,6 +72,7 @@ fn borrowed_mutants_are_as_owned(rt: HostRuntime) {
             assert_as_owned(&rt, alloc, &mutant);
         }
     }
+    assert_as_owned(&rt, alloc, LONG.as_bytes());
 }
 
 // What is borrowed of a text is what a type of its own strings holds, and so is the error.
@@ -70,12 +80,12 @@ fn assert_as_owned(rt: &impl Abort, alloc: Global, text: &[u8]) {
     let mut input = Vec::from_slice(alloc, text).expect(rt, MEMORY);
     let owned: Result<Vec<(String, String)>, Error> = from_slice_owned(alloc, &mut input);
     let mut input = Vec::from_slice(alloc, text).expect(rt, MEMORY);
-    let borrowed: Result<Vec<(&str, &str)>, Error> = from_slice(alloc, &mut input);
+    let borrowed: Result<Vec<Pair<'_>>, Error> = from_slice(alloc, &mut input);
     match (borrowed, owned) {
         (Ok(borrowed), Ok(owned)) => {
             assert_eq!(rt; borrowed.len(), owned.len());
             for (pair, (first, second)) in borrowed.iter().zip(&owned) {
-                assert_eq!(rt; *pair, (first.as_str(), second.as_str()));
+                assert_eq!(rt; (pair.0, pair.1), (first.as_str(), second.as_str()));
             }
         }
         (Err(borrowed), Err(owned)) => {

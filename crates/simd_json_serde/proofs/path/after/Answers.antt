@@ -21,4 +21,5 @@ returns-then-beneath-saturating_sub-clause-value c = λ d h.
 
 pub returns-clause-value : goal.returns-clause-value
 returns-clause-value c = λ d h.
-    omega (arith, c.beneath-beneath.ensures, sized-at (items_of c.args.nodes) c.args.at (item_of c.in-Some.node) d (sym c.in-Some.ensures) h)
+    let size = sized-at (items_of c.args.nodes) c.args.at (item_of c.in-Some.node) d (sym c.in-Some.ensures) h in
+    omega (arith, c.beneath-beneath.ensures, size)

@@ -10,8 +10,8 @@ loop-passed-init c = λ d h. at-root (items_of c.args.nodes) c.args.fault.now.no
 
 pub returns : goal.returns
 returns c = λ d h.
-    ends-none (items_of c.args.nodes) c.args.fault.now.node _ (string_bytes c.loop-passed.path) c.loop-passed.at _ (c.loop-passed.invariant d h)
-    (omega (arith, c.loop-passed-test.false))
+    ends-none (items_of c.args.nodes) c.args.fault.now.node _ (string_bytes c.loop-passed.path) c.loop-passed.at _
+    (c.loop-passed.invariant d h) (omega (arith, c.loop-passed-test.false))
 
 pub returns-in_default : goal.returns-in_default
 returns-in_default c = λ d h.

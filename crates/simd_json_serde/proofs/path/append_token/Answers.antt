@@ -13,7 +13,8 @@ pub returns-in_default-element_around : goal.returns-in_default-element_around
 returns-in_default-element_around c = λ d h.
     let a = c.args in
     let before : a.at < a.node = omega (arith, c.if-at-node.false) in
-    let r = array-at (items_of a.nodes) a.node a.at (item_of c.in-Some.value) (sym c.in-Some.ensures) before d h (sym c.if-is_array.ensures) in
+    let r = array-at (items_of a.nodes) a.node a.at (item_of c.in-Some.value) (sym c.in-Some.ensures) before d h
+    (sym c.if-is_array.ensures) in
     let none = c.in_default-element_around.ensures r.elements r.begin (omega (arith, c.after-end.ensures.value d h, r.long))
     (omega (arith, before)) in
     (refl, no-token d (a.node - a.at) (λ depth. r.same depth ∙ none depth))
@@ -22,7 +23,8 @@ pub returns-then-is_array : goal.returns-then-is_array
 returns-then-is_array c = λ d h.
     let a = c.args in
     let before : a.at < a.node = omega (arith, c.if-at-node.false) in
-    let r = array-at (items_of a.nodes) a.node a.at (item_of c.in-Some.value) (sym c.in-Some.ensures) before d h (sym c.if-is_array.ensures) in
+    let r = array-at (items_of a.nodes) a.node a.at (item_of c.in-Some.value) (sym c.in-Some.ensures) before d h
+    (sym c.if-is_array.ensures) in
     let found = c.in-Some-element_around.ensures r.elements r.begin (omega (arith, c.after-end.ensures.value d h, r.long))
     (omega (arith, before)) in (
       found.0,
@@ -37,7 +39,8 @@ pub returns-in_default-member_around : goal.returns-in_default-member_around
 returns-in_default-member_around c = λ d h.
     let a = c.args in
     let before : a.at < a.node = omega (arith, c.if-at-node.false) in
-    let r = other-at (items_of a.nodes) a.node a.at (item_of c.in-Some.value) (sym c.in-Some.ensures) before d h (sym c.if-is_array.ensures) in
+    let r = other-at (items_of a.nodes) a.node a.at (item_of c.in-Some.value) (sym c.in-Some.ensures) before d h
+    (sym c.if-is_array.ensures) in
     let none = c.in_default-member_around.ensures r.members r.begin (omega (arith, c.after-end.ensures.value d h, r.long))
     (omega (arith, before)) in
     (refl, no-token d (a.node - a.at) (λ depth. r.same depth ∙ none depth))
@@ -46,7 +49,8 @@ pub returns : goal.returns
 returns c = λ d h.
     let a = c.args in
     let before : a.at < a.node = omega (arith, c.if-at-node.false) in
-    let r = other-at (items_of a.nodes) a.node a.at (item_of c.in-Some.value) (sym c.in-Some.ensures) before d h (sym c.if-is_array.ensures) in
+    let r = other-at (items_of a.nodes) a.node a.at (item_of c.in-Some.value) (sym c.in-Some.ensures) before d h
+    (sym c.if-is_array.ensures) in
     let found = c.in-Some-member_around.ensures r.members r.begin (omega (arith, c.after-end.ensures.value d h, r.long))
     (omega (arith, before)) in (
       found.0,

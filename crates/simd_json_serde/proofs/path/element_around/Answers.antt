@@ -9,8 +9,8 @@ returns-then-node-next c = λ ds h ends before.
     let a = c.args in
     let l = c.loop-element in
     let found =
-    element-found (items_of a.nodes) a.end a.node (λ depth. elements_way ds 0 depth (a.node - a.first)) l.element l.index c.after-next.result
-    c.after-next.ensures.value c.loop-element-test.true (l.invariant.1 ds h ends before) c.if-node-next.true in
+    element-found (items_of a.nodes) a.end a.node (λ depth. elements_way ds 0 depth (a.node - a.first)) l.element l.index
+    c.after-next.result c.after-next.ensures.value c.loop-element-test.true (l.invariant.1 ds h ends before) c.if-node-next.true in
     (found.document, found.begin, found.same)
 
 pub loop-element-preserved : goal.loop-element-preserved

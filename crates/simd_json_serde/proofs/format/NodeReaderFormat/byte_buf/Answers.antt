@@ -15,5 +15,5 @@ returns-clause-given c = bytes-taken (λ v. v.items) c.bytes_inside.result (plac
     (place c.bytes_inside.new.self) c.in_ok-begin_seq.ensures.given c.bytes_inside.ensures.given c.bytes_inside.ensures.closed
 
 pub returns-clause-err : goal.returns-clause-err
-returns-clause-err c = memory-inside c.bytes_inside.result (place c.args.self.now) (place c.begin_seq.new.self) c.in_ok-begin_seq.ensures.given
-    c.bytes_inside.ensures.err
+returns-clause-err c = memory-inside c.bytes_inside.result (place c.args.self.now) (place c.begin_seq.new.self)
+    c.in_ok-begin_seq.ensures.given c.bytes_inside.ensures.err

@@ -36,7 +36,8 @@ bytes-preserved c =
     let value = ap (λ p. p.at_key) here ∙ c.requires.value in
     let taken = c.in_ok-u64.ensures.given in
     let items : c.push.new.self.items ≡ c.bytes.bytes.items ++ c.in-Ok.byte ∷ [] =
-    c.push.ensures.items ∙ ap (λ b. if b then (c.bytes.bytes.items ++ c.in-Ok.byte ∷ []) else c.bytes.bytes.items) c.if-is_err.ensures.negation in
+    c.push.ensures.items
+    ∙ ap (λ b. if b then (c.bytes.bytes.items ++ c.in-Ok.byte ∷ []) else c.bytes.bytes.items) c.if-is_err.ensures.negation in
     let more : length c.push.new.self.items ≡ length c.bytes.bytes.items + 1 =
     ap length items ∙ length-append c.bytes.bytes.items (c.in-Ok.byte ∷ []) in
     let there = next-place (place c.args.self.now) (place c.bytes.self) (place c.u64.new.self) (length c.bytes.bytes.items)
