@@ -242,8 +242,9 @@ def main():
         f"of {'simdjson' if log.has_simdjson() else 'all'}.\n\n"
         f"{table_of_lines(log, bool(documents))}\n\n"
         f"Tasks: what {first} takes, and our speed over that by a kept tape, on demand (`find`), on demand after a check, and by JSONPath "
-        f"over a tape (`path`, 32 times). Types with owned or borrowed strings: what Rust's `serde_json` takes, and the speed over that of "
-        f"`simd_json_serde` and of the crate for Rust (geometric mean {mean_of_crate(typed)}).\n\n"
+        f"over a tape (`path`, 32 times). Types with owned strings, or borrowed ones (in Rattle by `borrowed_str`): what Rust's "
+        f"`serde_json` takes, and the speed over that of `simd_json_serde` and of the crate for Rust "
+        f"(geometric mean {mean_of_crate(typed)}).\n\n"
         f"{table_of_tasks(tasks, typed, LEFT_OUT_OF_TASKS if documents else ())}\n"
     )
     if documents:
