@@ -165,6 +165,18 @@ if command -v cargo > /dev/null; then
     # What the test harness still holds in the end is no leak of the crate's.
     [ -z "$check" ] || CARGO_TARGET_X86_64_UNKNOWN_LINUX_GNU_RUNNER="$check --errors-for-leak-kinds=definite" MUTANTS=500 \
         run cargo test --offline -q --tests
+    # The library of the folder that is named, in a workspace also by a path from the crate on, and no other.
+    printf '[workspace]\nmembers = ["bindings/rust"]\n' > "$room/Cargo.toml"
+    mkdir "$room/named library"
+    ln -s "$top/build/libsimd_json.a" "$room/named library/"
+    ln -s "$top/build" "$room/build"
+    run env "SIMD_JSON_LIB_DIR=../../named library" cargo build --offline -q
+    if SIMD_JSON_LIB_DIR=../../none cargo build --offline -q 2> "$room/log" ||
+        ! grep -q "no libsimd_json.a in SIMD_JSON_LIB_DIR, $PWD/../../none" "$room/log"; then
+        echo "bindings/rust/build.rs: a wrong SIMD_JSON_LIB_DIR is not named"
+        cat "$room/log"
+        exit 1
+    fi
     cd "$top"
 else
     left_out="$left_out Rust (no cargo);"
