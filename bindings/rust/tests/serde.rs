@@ -68,6 +68,26 @@ struct Unit;
 #[derive(Debug, Deserialize, PartialEq)]
 struct New(Vec<(u8, String)>);
 
+/// What asks for bytes that it may keep, and takes no text.
+#[derive(Debug, Eq, Ord, PartialEq, PartialOrd)]
+struct Kept(Vec<u8>);
+
+impl<'de> Deserialize<'de> for Kept {
+    fn deserialize<D: Deserializer<'de>>(deserializer: D) -> Result<Self, D::Error> {
+        struct Bytes;
+        impl Visitor<'_> for Bytes {
+            type Value = Kept;
+            fn expecting(&self, f: &mut std::fmt::Formatter<'_>) -> std::fmt::Result {
+                f.write_str("bytes")
+            }
+            fn visit_bytes<E>(self, bytes: &[u8]) -> Result<Kept, E> {
+                Ok(Kept(bytes.to_vec()))
+            }
+        }
+        deserializer.deserialize_byte_buf(Bytes)
+    }
+}
+
 #[derive(Debug, Deserialize, PartialEq)]
 struct Tree {
     v: i16,
@@ -113,6 +133,9 @@ fn types_are_read() {
     assert_eq!(read::<(Unit, New)>(r#"[null,[[1,"b"]]]"#), (Unit, New(vec![(1, "b".into())])));
     assert_eq!(read::<BTreeMap<i8, u8>>(r#"{"-5":1,"0":2}"#).into_iter().collect::<Vec<_>>(), [(-5, 1), (0, 2)]);
     assert_eq!(read::<BTreeMap<bool, Shape>>(r#"{"true":"Dot"}"#)[&true], Shape::Dot);
+    let kept = |text: &str| Kept(text.into());
+    let wanted = BTreeMap::from([(kept("a\n"), kept("b")), (kept(""), kept("é"))]);
+    assert_eq!(read::<BTreeMap<Kept, Kept>>(r#"{"a\n":"b","":"é"}"#), wanted);
     assert_eq!(read::<serde_json::Value>("[{}]"), serde_json::json!([{}]));
 }
 
@@ -126,6 +149,10 @@ fn numbers_are_exact() {
     assert_eq!(read::<f32>("16777217.00000000000000000001"), 16777218.0);
     assert_eq!(read::<(f64, f64)>("[5e-324,1e400]"), (f64::from_bits(1), f64::INFINITY));
     assert_eq!(words::<u64>("18446744073709551616"), "invalid type: integer `18446744073709551616` as i128, expected u64 at line 1 column 1");
+    // What serde buffers, and a serde_json::Value, have no integers beyond 64 bits.
+    for text in ["18446744073709551616", "-9223372036854775809"] {
+        assert!(from_str::<Untagged>(text).is_err() && from_str::<serde_json::Value>(text).is_err());
+    }
     assert_eq!(words::<i128>("[0]"), "invalid type: sequence, expected i128 at line 1 column 1");
     assert_eq!(words::<u8>("256"), "invalid value: integer `256`, expected u8 at line 1 column 1");
 }

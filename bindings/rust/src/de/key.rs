@@ -75,7 +75,11 @@ impl<'de> Deserializer<'de> for Key<'de> {
         visitor.visit_borrowed_bytes(self.text.as_bytes()).map_err(|error: ReadError| error.at(self.left))
     }
 
+    fn deserialize_byte_buf<V: Visitor<'de>>(self, visitor: V) -> Result<V::Value, ReadError> {
+        self.deserialize_bytes(visitor)
+    }
+
     serde::forward_to_deserialize_any! {
-        f32 f64 char str string byte_buf unit unit_struct seq tuple tuple_struct map struct identifier ignored_any
+        f32 f64 char str string unit unit_struct seq tuple tuple_struct map struct identifier ignored_any
     }
 }
