@@ -10,6 +10,7 @@ import re
 import shlex
 import subprocess
 import sysconfig
+import tempfile
 import zipfile
 
 HERE = pathlib.Path(__file__).resolve().parent
@@ -39,21 +40,24 @@ def run(*command):
 
 def compiled():
     """The bytes of the extension module, with the static library in it."""
-    out = LIBRARY / "_native.abi3.so"
     compiler = shlex.split(os.environ.get("CC", "cc")) + [
         "-O2", "-Wall", "-Wextra", "-Werror", "-fPIC", "-fvisibility=hidden",
         "-I" + sysconfig.get_paths()["include"], f"-I{ROOT}/include"]
-    if FASTER:
-        parts = [part("v2", LIBRARY, compiler), part("v3", pathlib.Path(FASTER), compiler), HERE / "start.c"]
-    else:
-        parts = [HERE / "native.c", LIBRARY / "libsimd_json.a"]
-    run(*compiler, "-shared", "-s", *parts, "-o", out)
-    return out.read_bytes()
+    with tempfile.TemporaryDirectory() as name:  # the library's folder may be another's
+        folder = pathlib.Path(name)
+        if FASTER:
+            levels = {"v2": LIBRARY, "v3": pathlib.Path(FASTER)}
+            parts = [part(folder, *level, compiler) for level in levels.items()] + [HERE / "start.c"]
+        else:
+            parts = [HERE / "native.c", LIBRARY / "libsimd_json.a"]
+        out = folder / "_native.abi3.so"
+        run(*compiler, "-shared", "-s", *parts, "-o", out)
+        return out.read_bytes()
 
 
-def part(level, library, compiler):
+def part(folder, level, library, compiler):
     """The module with the library of a level in it, which shows nothing but how it begins."""
-    module, whole = LIBRARY / f"native_{level}.o", LIBRARY / f"module_{level}.o"
+    module, whole = folder / f"native_{level}.o", folder / f"module_{level}.o"
     run(*compiler, f"-DPyInit__native=begin_{level}", "-c", HERE / "native.c", "-o", module)
     run("ld", "-r", module, library / "libsimd_json.a", "-o", whole)
     run("objcopy", f"--keep-global-symbol=begin_{level}", whole)

@@ -81,7 +81,11 @@ else
 fi
 
 if python3 -c 'import sysconfig, os; raise SystemExit(not os.path.exists(sysconfig.get_paths()["include"] + "/Python.h"))' 2> /dev/null; then
-    run python3 -B python/backend.py "$room"
+    # Of a folder that is not ours: nothing is written there.
+    mkdir "$room/library"
+    cp build/libsimd_json.a "$room/library/"
+    SIMD_JSON_LIB_DIR="$room/library" run python3 -B python/backend.py "$room"
+    [ "$(ls "$room/library")" = libsimd_json.a ] || { echo "python/backend.py: it writes to the library's folder"; exit 1; }
     run python3 -m zipfile -e "$room"/simd_json-*.whl "$room/site"
     grep -q '^# simd_json for Python$' "$room/site"/simd_json-*.dist-info/METADATA || { echo "METADATA lacks README.md"; exit 1; }
     # Each Python that there is, in an environment of its own.

@@ -2,25 +2,25 @@ from collections.abc import Callable, Iterable, Iterator
 from json import JSONDecodeError
 from typing import Any, Protocol
 
-Text = str | bytes | bytearray | memoryview
+_Text = str | bytes | bytearray | memoryview
 __version__: str
 
 class SimdJsonError(JSONDecodeError):
     msg: str
-    doc: Any  # of JSONDecodeError a str, here the Text that was given
+    doc: Any  # of JSONDecodeError a str, here the _Text that was given
     pos: int
     reason: str
     lineno: int
     colno: int
     def __init__(
-        self, msg: str, doc: Text, pos: int, reason: str, lineno: int, colno: int
+        self, msg: str, doc: _Text, pos: int, reason: str, lineno: int, colno: int
     ) -> None: ...
 
 class _File(Protocol):
-    def read(self) -> Text: ...
+    def read(self) -> _Text: ...
 
 def loads(
-    data: Text,
+    data: _Text,
     /,
     *,
     object_hook: Callable[[dict[str, Any]], Any] | None = None,
@@ -42,9 +42,9 @@ def load(
     max_depth: int = 1024,
 ) -> Any: ...
 def get(
-    data: Text, pointer: str, /, default: Any = None, *, max_depth: int = 1024
+    data: _Text, pointer: str, /, default: Any = None, *, max_depth: int = 1024
 ) -> Any: ...
-def check(data: Text, /, *, max_depth: int = 1024) -> None: ...
+def check(data: _Text, /, *, max_depth: int = 1024) -> None: ...
 
 class Parser:
     def __init__(
@@ -57,10 +57,10 @@ class Parser:
         parse_constant: None = None,
         object_pairs_hook: Callable[[list[tuple[str, Any]]], Any] | None = None,
     ) -> None: ...
-    def loads(self, data: Text, /) -> Any: ...
-    def check(self, data: Text, /) -> None: ...
-    def index(self, data: Text, /) -> None: ...
+    def loads(self, data: _Text, /) -> Any: ...
+    def check(self, data: _Text, /) -> None: ...
+    def index(self, data: _Text, /) -> None: ...
     def get(self, pointer: str, /, default: Any = None) -> Any: ...
     def lines(
-        self, file: Iterable[Text], *, on_error: Callable[[SimdJsonError], object] | None = None
+        self, file: Iterable[_Text], *, on_error: Callable[[SimdJsonError], object] | None = None
     ) -> Iterator[Any]: ...

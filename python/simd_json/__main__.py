@@ -21,4 +21,6 @@ def main(names):
 
 
 if __name__ == "__main__":
+    if sys.stdout:
+        sys.stdout.reconfigure(errors="surrogateescape")  # names of files are bytes
     sys.exit(main(sys.argv[1:]))

@@ -309,6 +309,17 @@ class Values(unittest.TestCase):
                 ran = subprocess.run([sys.executable, "-m", "simd_json", *map(str, names)], capture_output=True, text=True)
                 self.assertEqual((ran.returncode, ran.stdout), (status, out))
 
+    def test_program_s_names(self):
+        """A name is bytes, as the system has it, and need not be UTF-8."""
+        with tempfile.TemporaryDirectory() as folder:
+            name = os.fsencode(folder) + b"/\xc3\xa9\xff"
+            with open(name, "wb") as file:
+                file.write(b"[1,]")
+            strict = {**os.environ, "PYTHONUTF8": "1", "PYTHONIOENCODING": "utf-8:strict"}
+            ran = subprocess.run([sys.executable, "-m", "simd_json", name], capture_output=True, env=strict)
+            self.assertEqual(ran.stdout, name + b":1:4: expected a value, found `]` [InternalError at byte 3]\n")
+            self.assertEqual((ran.returncode, ran.stderr), (1, b""))
+
     def test_depth(self):
         for depth in (1, 1000, 1024):
             value = simd_json.loads("[" * depth + "]" * depth)
@@ -597,6 +608,23 @@ class Kept(unittest.TestCase):
             self.assertEqual([of.kind for of in each if of.name not in found],
                              [inspect.Parameter.POSITIONAL_ONLY] * len(data))
             call(*data, **defaults)
+
+    def test_stub(self):
+        """What can be imported by the stub is there, and called in the same way."""
+        said = {}
+        exec(pathlib.Path(simd_json.__file__).with_suffix(".pyi").read_text(), said)
+        imported = {"Any", "Callable", "Iterable", "Iterator", "JSONDecodeError", "Protocol"}
+        names = {name for name in said if not name.startswith("_")} - imported
+        self.assertEqual(names, set(simd_json.__all__))
+
+        def parameters(of):
+            return [(each.name, each.kind, each.default) for each in inspect.signature(of).parameters.values()]
+
+        methods = {name for name in vars(said["Parser"]) if not name.startswith("_")}
+        pairs = [(said[name], getattr(simd_json, name)) for name in names - {"load"}]  # which passes keywords on
+        pairs += [(getattr(said["Parser"], name), getattr(simd_json.Parser, name)) for name in methods]
+        for stub, found in pairs:
+            self.assertEqual(sorted(parameters(stub)), sorted(parameters(found)), found)
 
     def test_signatures_of_get(self):
         self.assertEqual(str(inspect.signature(simd_json.get)), "(data, pointer, /, default=None, *, max_depth=1024)")
