@@ -659,11 +659,17 @@ static PyObject *build_any(memory *m, PyObject **hooks) {
 static PyObject *loads_in(memory *kept, arguments *given) {
     memory own = {0};
     memory *m = kept->in_use ? &own : kept;
+    /* A hook's call, which may be the hook itself: Python counts it once more, since it takes more
+     * stack than what is only called. */
+    if (m == &own && Py_EnterRecursiveCall(" in a hook of simd_json"))
+        return NULL;
     m->in_use = 1;
     PyObject *value = parse(m, given->data, (size_t)given->max_depth) ? build_any(m, given->hooks) : NULL;
     m->in_use = 0;
-    if (m == &own)
+    if (m == &own) {
         release(m);
+        Py_LeaveRecursiveCall();
+    }
     return value;
 }
 

@@ -345,6 +345,13 @@ class Values(unittest.TestCase):
                 simd_json.loads(text, parse_float=fails)
         self.assertEqual(simd_json.loads("[1.5]"), [1.5])
 
+    def test_a_hook_without_end(self):
+        """It is Python's error, and not the end of the stack, also where no code of Python is between two calls."""
+        code = "import simd_json; p = simd_json.Parser(); p.__init__(parse_float=p.loads); p.loads('[1.5]')"
+        ran = subprocess.run([sys.executable, "-c", code], capture_output=True, text=True)
+        self.assertEqual(ran.returncode, 1)
+        self.assertIn("RecursionError: maximum recursion depth exceeded", ran.stderr)
+
     def test_hooks_may_change_the_input(self):
         """What comes after it is of the input as it was: with the same parser, and with what it has indexed."""
         text = b'[1.5, "\\u00e9", {"a\\n": "b"}, 2.5, "' + b"x" * 100 + b'"]'
