@@ -4,6 +4,7 @@ use serde::de::{DeserializeOwned, Deserializer, Visitor};
 use serde::{Deserialize, Serialize};
 use simd_json_proved::{
     from_slice, from_slice_mut, from_slice_mut_with, from_slice_with, from_str, to_owned_tape, Buffers, ErrorType,
+    ReadError,
 };
 use std::borrow::Cow;
 use std::collections::BTreeMap;
@@ -279,6 +280,21 @@ fn values_are_found_and_read() {
     assert_eq!(index.get::<u8>("/a/1").unwrap(), None);
     assert_eq!(index.get::<u8>("/a").unwrap_err().to_string(), "invalid type: sequence, expected u8");
     assert_eq!(index.get::<u8>("/wrong").unwrap_err().parse_error().unwrap().index(), 3);
+}
+
+#[test]
+fn both_errors_are_returned_as_one() {
+    fn second(input: &[u8]) -> Result<Option<String>, ReadError> {
+        let mut buffers = Buffers::with_max_depth(2)?;
+        buffers.check(input)?;
+        let mut index = buffers.index(input)?;
+        Ok(if index.find("/0")?.is_some() { index.get("/1")? } else { None })
+    }
+    assert_eq!(second(br#"[0,"a"]"#).unwrap(), Some("a".into()));
+    let error = second(b"[0,[[]]]").unwrap_err();
+    assert_eq!(error.to_string(), "DepthLimitExceeded at character 4 ('[')");
+    assert_eq!((error.parse_error().unwrap().index(), error.location()), (4, None));
+    assert_eq!(second(b"[0,1]").unwrap_err().to_string(), "invalid type: integer `1`, expected a string");
 }
 
 #[test]

@@ -134,6 +134,13 @@ fn path_to(value: Value<'_>, node: usize) -> String {
     path
 }
 
+/// The error of an input, without its location, since that is not known.
+impl From<Error> for ReadError {
+    fn from(error: Error) -> ReadError {
+        ReadError::of_parse(error, None)
+    }
+}
+
 impl serde::de::Error for ReadError {
     #[cold]
     fn custom<T: fmt::Display>(words: T) -> ReadError {

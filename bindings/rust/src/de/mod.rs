@@ -146,12 +146,8 @@ pub fn from_slice_mut_with<'de, T: Deserialize<'de>>(
     buffers: &mut Buffers,
     input: &'de mut [u8],
 ) -> Result<T, ReadError> {
-    match buffers.nodes_in(input) {
-        Ok((nodes, texts)) => {
-            T::deserialize(&mut Reader::new(nodes, texts)).map_err(|error| error.beneath(Value::new(nodes, texts)))
-        }
-        Err(error) => Err(ReadError::of_parse(error, None)),
-    }
+    let (nodes, texts) = buffers.nodes_in(input)?;
+    T::deserialize(&mut Reader::new(nodes, texts)).map_err(|error| error.beneath(Value::new(nodes, texts)))
 }
 
 impl Index<'_> {
@@ -161,11 +157,7 @@ impl Index<'_> {
     ///
     /// Those of [`Index::find`]; or how the value does not fit the type, with the path from it on.
     pub fn get<'i, T: Deserialize<'i>>(&'i mut self, pointer: &str) -> Result<Option<T>, ReadError> {
-        match self.find(pointer) {
-            Ok(Some(value)) => T::deserialize(value).map(Some),
-            Ok(None) => Ok(None),
-            Err(error) => Err(ReadError::of_parse(error, None)),
-        }
+        self.find(pointer)?.map(T::deserialize).transpose()
     }
 }
 
