@@ -47,7 +47,8 @@ def compiled():
         folder = pathlib.Path(name)
         if FASTER:
             levels = {"v2": LIBRARY, "v3": pathlib.Path(FASTER)}
-            parts = [part(folder, *level, compiler) for level in levels.items()] + [HERE / "start.c"]
+            parts = [part(folder, *level, compiler) for level in levels.items()]
+            parts.append(HERE / "start.c")
         else:
             parts = [HERE / "native.c", LIBRARY / "libsimd_json.a"]
         out = folder / "_native.abi3.so"

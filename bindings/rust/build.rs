@@ -1,5 +1,5 @@
-//! Links libsimd_json.a from the folder SIMD_JSON_LIB_DIR; without that from `lib` in this folder or
-//! beside it, or from `build` of the repository.
+//! Links libsimd_json.a from the folder SIMD_JSON_LIB_DIR; without that from `lib` in this folder
+//! or beside it, or from `build` of the repository.
 use std::env;
 use std::path::PathBuf;
 
@@ -17,9 +17,9 @@ fn main() {
             folder
         }
         None => {
-            let folders = ["lib", "../lib", "../../build"];
-            let found = folders.iter().map(|folder| here.join(folder)).find(|folder| library(folder).exists());
-            found.expect("no libsimd_json.a: run `make library`, or set SIMD_JSON_LIB_DIR to its folder")
+            let folders = ["lib", "../lib", "../../build"].map(|folder| here.join(folder));
+            let found = folders.into_iter().find(|folder| library(folder).exists());
+            found.expect("no libsimd_json.a: run `make library`, or name its folder, SIMD_JSON_LIB_DIR")
         }
     };
     println!("cargo:rerun-if-changed={}", library(&folder).display());
