@@ -19,7 +19,7 @@ fn main() {
         None => {
             let folders = ["lib", "../lib", "../../build"].map(|folder| here.join(folder));
             let found = folders.into_iter().find(|folder| library(folder).exists());
-            found.expect("no libsimd_json.a: run `make library`, or name its folder, SIMD_JSON_LIB_DIR")
+            found.expect("no libsimd_json.a: run `make library`, or set SIMD_JSON_LIB_DIR")
         }
     };
     println!("cargo:rerun-if-changed={}", library(&folder).display());
