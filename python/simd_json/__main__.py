@@ -1,5 +1,6 @@
 """python -m simd_json FILE..: prints where and why files are no documents. The status is 1 where one is not, and 3 where one
-can't be read."""
+can't be read, or the output can't be written."""
+import os
 import sys
 
 from . import SimdJsonError, check
@@ -23,4 +24,14 @@ def main(names):
 if __name__ == "__main__":
     if sys.stdout:
         sys.stdout.reconfigure(errors="surrogateescape")  # names of files are bytes
-    sys.exit(main(sys.argv[1:]))
+    try:
+        status = main(sys.argv[1:])
+        if sys.stdout:
+            sys.stdout.flush()
+    except OSError as error:  # of standard output
+        if not isinstance(error, BrokenPipeError):
+            print(f"standard output: {error.strerror}", file=sys.stderr)
+        # What is left of it goes nowhere, or Python would write it again at its end.
+        os.dup2(os.open(os.devnull, os.O_WRONLY), sys.stdout.fileno())
+        status = 3
+    sys.exit(status)

@@ -320,6 +320,19 @@ class Values(unittest.TestCase):
             self.assertEqual(ran.stdout, name + b":1:4: expected a value, found `]` [InternalError at byte 3]\n")
             self.assertEqual((ran.returncode, ran.stderr), (1, b""))
 
+    def test_program_s_output(self):
+        """Where it can't be written, a line says so, and nothing where its reader is gone."""
+        with tempfile.NamedTemporaryFile(suffix=".json") as file:
+            command = [sys.executable, "-m", "simd_json", *[file.name] * 3000]
+            with open("/dev/full", "w") as full:
+                ran = subprocess.run(command, stdout=full, stderr=subprocess.PIPE, text=True)
+            self.assertEqual((ran.returncode, ran.stderr), (3, "standard output: No space left on device\n"))
+            reader, writer = os.pipe()
+            os.close(reader)
+            ran = subprocess.run(command, stdout=writer, stderr=subprocess.PIPE, text=True)
+            os.close(writer)
+            self.assertEqual((ran.returncode, ran.stderr), (3, ""))
+
     def test_depth(self):
         for depth in (1, 1000, 1024):
             value = simd_json.loads("[" * depth + "]" * depth)
