@@ -262,7 +262,14 @@ public:
         using iterator_concept = std::forward_iterator_tag; /* which C++20 does not ask for */
         using value_type = item;
         using difference_type = std::ptrdiff_t;
-        using pointer = void;
+        class pointer { /* to an item that it holds */
+        public:
+            explicit pointer(const item &held) : held_(held) {}
+            const item *operator->() const { return &held_; }
+
+        private:
+            item held_;
+        };
         using reference = item;
         iterator() = default;
         iterator(element at, size_t left) : at_(at), left_(left) {}
@@ -272,6 +279,7 @@ public:
             else
                 return at_;
         }
+        pointer operator->() const { return pointer(**this); }
         iterator &operator++() {
             at_ = is_object ? at_.after().after() : at_.after();
             left_--;

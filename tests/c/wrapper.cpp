@@ -371,7 +371,11 @@ int main() {
     for (const auto value : a.array())
         count += value.kind() != SIMD_JSON_OBJECT;
     EXPECT(count == 8);
-    const auto members = root.object();
+    const auto members = root.object(), none = root["b"]["c"].object();
+    keys.clear();
+    for (auto member = members.begin(); member != members.end(); ++member)
+        keys += std::string(member->first) + std::to_string(member->second.kind());
+    EXPECT(keys == "a8b9a3" && a.array().begin()->as_int64() == 1 && none.begin() == none.end());
     EXPECT(std::count_if(members.begin(), members.end(), [](const auto &member) { return member.first == "a"; }) == 2);
     bool caught = false;
     try {
