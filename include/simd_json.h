@@ -73,7 +73,7 @@ enum {
                                       input ends early, reported at the last token */
     SIMD_JSON_EOF = 5,             /* nothing but whitespace */
 
-    /* At a token: its index, and the byte there. */
+    /* At a token, or a byte in it: the index, and the byte there (simd_json_place). */
     SIMD_JSON_INTERNAL_ERROR = 6,           /* no value where one is expected; or more text after the root container,
                                                reported at its closing bracket */
     SIMD_JSON_EXPECTED_ARRAY_CONTENT = 7,   /* no `,` or `]` after an element */
@@ -100,8 +100,9 @@ enum {
     SIMD_JSON_NO_VALUE = 21
 };
 
-/* Where an input is rejected: a byte offset into it, and the byte there. Index 0 and SIMD_JSON_NO_CHARACTER if the error is
- * of the whole input, or if there is no error. */
+/* Where an input is rejected: a byte offset into it, and the byte there. A number that ends too early may be reported at the
+ * length, with a space. INVALID_ESCAPE and INVALID_UNICODE_CODEPOINT are at the backslash, with the byte after it. Index 0 and
+ * SIMD_JSON_NO_CHARACTER if the error is of the whole input, or if there is no error. */
 typedef struct {
     size_t index;
     uint32_t character;
@@ -164,7 +165,8 @@ size_t simd_json_key(const simd_json_node *nodes, size_t nodes_len, const void *
 size_t simd_json_pointer(const simd_json_node *nodes, size_t nodes_len, const void *text, size_t text_len, size_t from,
                          const void *pointer, size_t pointer_len);
 
-/* Converts a number as it is written, such as the literal of a SIMD_JSON_DECIMAL, to the nearest double, in any locale:
+/* Converts a number as it is written, such as the literal of a SIMD_JSON_DECIMAL, to the nearest double, in any locale, but only
+ * in the default rounding mode (FE_TONEAREST):
  *
  *     double number;
  *     simd_json_double(text + node.value, node.len, &number);
@@ -278,7 +280,8 @@ int32_t simd_json_parser_print(simd_json_parser *parser, void *input, size_t len
  *         && simd_json_parser_find(&parser, "/user/id", 8, &found, out, sizeof out) == SIMD_JSON_OK)
  *         printf("%.*s\n", (int)found.len, out);
  *
- * Only what is on the way to a value is read: a value may also be found in an input that is not a document. */
+ * Only what is on the way to a value is read: a value may also be found in an input that is not a document. A malformed word or
+ * number is no value; a malformed string, array or object is found. */
 typedef struct {
     uint32_t kind; /* as of a node */
     size_t len;    /* of the value as it is written */

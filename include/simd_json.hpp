@@ -35,7 +35,7 @@
 namespace simd_json {
 
 /* The first error of an input: its status, as SIMD_JSON_INVALID_NUMBER, its index in bytes, and the
- * byte there. */
+ * byte there (simd_json_place). */
 class error : public std::exception {
 public:
     error(int32_t status, const simd_json_place &place) : status_(status), place_(place) {
@@ -148,7 +148,8 @@ public:
         return lower ? lower : if_kind(SIMD_JSON_U128, text());
     }
 
-    /* The number as the nearest double, infinite if it is past the greatest. */
+    /* The number as the nearest double, infinite if it is past the greatest; only in the default
+     * rounding mode (FE_TONEAREST). */
     std::optional<double> as_double() const {
         const simd_json_node &of = node();
         switch (of.kind) {
@@ -610,8 +611,9 @@ public:
 
     /* The value that a JSON Pointer (RFC 6901) names in the text that is kept, or nothing. It is a
      * document of the parser, so it is valid until the next call. Only the value and what is on the
-     * way to it are checked: it may also be found in a text that is not a document. Throws the
-     * first error of the value, whose places count from its first byte, or std::bad_alloc. */
+     * way to it are checked: it may also be found in a text that is not a document. A malformed
+     * word or number is nothing. Throws the first error of a string, an array or an object, whose
+     * places count from its first byte, or std::bad_alloc. */
     std::optional<element> find(std::string_view pointer) & {
         std::string kept;
         own(pointer, kept);

@@ -163,6 +163,9 @@ static void name_their_place() {
     EXPECT(bare.line() == 0 && bare.column() == 0 && bare.reason().empty());
     EXPECT(bare.what() == std::string_view("InvalidNumber at character 2"));
     EXPECT(located.line() == 1 && located.column() == 3 && !located.reason().empty());
+    // Past the end there is a space; of a wrong escape the character is the byte after the backslash.
+    EXPECT(parser.try_parse("-", place) == SIMD_JSON_INVALID_NUMBER && place.index == 1 && place.character == ' ');
+    EXPECT(parser.try_parse(R"("\q")", place) == SIMD_JSON_INVALID_ESCAPE && place.index == 1 && place.character == 'q');
     const simd_json::error closed(SIMD_JSON_PARSER_CLOSED, {0, SIMD_JSON_NO_CHARACTER}, "");
     EXPECT(closed.line() == 0 && closed.reason().empty());
 }
@@ -292,6 +295,11 @@ static void are_found() {
     EXPECT(parser.find(parser.root()[0].as_string().value()).value()["id"] == 7);
     EXPECT(throws([&] { parser.index("[\"\xff\"]"); }, SIMD_JSON_INVALID_UTF8, 0));
     EXPECT(!parser.find("/a"));
+    // A malformed word or number is no value, a malformed string is found.
+    parser.index(R"([tru, 01, "\q", [1.]])");
+    EXPECT(!parser.find("/0") && !parser.find("/1") && !parser.find("/3/0"));
+    EXPECT(throws([&] { parser.find("/2"); }, SIMD_JSON_INVALID_ESCAPE, 1));
+    EXPECT(throws([&] { parser.find("/3"); }, SIMD_JSON_INVALID_NUMBER, 3));
 #ifndef NDEBUG
     parser.index("[1,2]");
     const auto one = parser.find("/0");
