@@ -169,6 +169,7 @@ install-library:
 	$(call links,$(under)/lib)
 	sed 's|@PREFIX@|$(abspath $(PREFIX))|; s|@VERSION@|$(version)|' simd_json.pc.in > $(under)/lib/pkgconfig/simd_json.pc
 	sed 's|@VERSION@|$(version)|; s|@ABI@|$(abi)|' simd_json.cmake.in > $(under)/lib/cmake/simd_json/simd_jsonConfig.cmake
+	sed 's|@VERSION@|$(version)|; s|@ABI@|$(abi)|' simd_json_version.cmake.in > $(under)/lib/cmake/simd_json/simd_jsonConfigVersion.cmake
 	install -m 644 man/simd_json.3 $(under)/share/man/man3/simd_json.3
 
 uninstall:
