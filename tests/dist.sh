@@ -66,7 +66,7 @@ else
     left_out="$left_out manual pages (no groff);"
 fi
 
-# What each program of examples/log prints of log.jsonl, and its status.
+# What each program of examples/log prints of log.jsonl, and its status; without the file it fails.
 cd "$at/examples/log"
 # shellcheck disable=SC2016
 log='200 /index.html
@@ -78,6 +78,7 @@ log.jsonl:6: no status, or no path
 status 1'
 prints_log() {
     prints "$1" "$log" sh -c '"$@" log.jsonl || echo "status $?"' sh "$@"
+    ! "$@" missing.jsonl > /dev/null 2>&1 || wrong "$*: status 0 without the file"
 }
 
 # C and C++, over the static library, the shared one, and what pkg-config and cmake find.

@@ -46,7 +46,7 @@ int main(int argc, char **argv) {
     FILE *file = argc == 2 ? fopen(argv[1], "r") : NULL;
     simd_json_parser parser = {0};
     if (!file || simd_json_open(&parser, 1024) != SIMD_JSON_OK) {
-        fprintf(stderr, "log FILE: %s\n", strerror(errno));
+        fprintf(stderr, "log FILE: %s\n", argc == 2 ? strerror(errno) : "one argument");
         return 2;
     }
     struct line line = {NULL, NULL, 0};

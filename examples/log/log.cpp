@@ -5,11 +5,11 @@
 #include <simd_json.hpp>
 
 int main(int argc, char **argv) {
-    if (argc != 2) {
-        std::cerr << "log FILE\n";
+    std::ifstream file(argc == 2 ? argv[1] : "");
+    if (!file) {
+        std::cerr << "log FILE, which can be read\n";
         return 2;
     }
-    std::ifstream file(argv[1]);
     simd_json::parser parser;
     std::string line;
     bool is_right = true;
