@@ -174,7 +174,10 @@ public:
      * index, of any integral type but bool; if there is none, nothing, or for [] std::out_of_range.
      */
     std::optional<element> find(std::string_view key) const { return named(simd_json_key, key); }
-    std::optional<element> find(size_t index) const;
+    template <class Index, std::enable_if_t<is_index<Index>, int> = 0>
+    std::optional<element> find(Index index) const {
+        return index < Index{} ? std::nullopt : nth(static_cast<size_t>(index));
+    }
     element operator[](std::string_view key) const {
         const std::optional<element> value = find(key);
         return value ? *value : throw absent("member \"" + std::string(key) + '"');
@@ -182,7 +185,7 @@ public:
     element operator[](const char *key) const { return (*this)[std::string_view(key)]; }
     template <class Index, std::enable_if_t<is_index<Index>, int> = 0>
     element operator[](Index index) const {
-        const auto value = index < Index{} ? std::nullopt : find(static_cast<size_t>(index));
+        const std::optional<element> value = find(index);
         return value ? *value : throw absent("element " + std::to_string(index));
     }
 
@@ -228,6 +231,7 @@ private:
         return {document_->text + (holds_text() ? node_->value : 0), holds_text() ? node_->len : 0};
     }
     bool holds_text() const { return kind() >= SIMD_JSON_I128 && kind() <= SIMD_JSON_STRING; }
+    std::optional<element> nth(size_t index) const;
     std::optional<element> named(decltype(simd_json_key) call, std::string_view name) const {
         const simd_json_node *const of = &node(); /* tested before an argument is read */
         const size_t at = call(of, simd_json_next(of, 0), document_->text, document_->text_len, 0,
@@ -314,7 +318,7 @@ private:
 inline array_view element::array() const { return array_view(*this); }
 inline object_view element::object() const { return object_view(*this); }
 
-inline std::optional<element> element::find(size_t index) const {
+inline std::optional<element> element::nth(size_t index) const {
     for (element value : array())
         if (index-- == 0)
             return value;
@@ -487,7 +491,8 @@ class parser {
     using if_string = std::enable_if_t<std::is_same_v<String, std::string>, int>;
 
 public:
-    explicit parser(size_t max_depth = 1024) : state_(std::make_unique<state>()) {
+    parser() : parser(1024) {}
+    explicit parser(size_t max_depth) : state_(std::make_unique<state>()) {
         if (simd_json_open(&state_->parser, max_depth) != SIMD_JSON_OK)
             throw std::bad_alloc();
     }

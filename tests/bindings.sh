@@ -67,7 +67,10 @@ if command -v c++ > /dev/null; then
     by=
     # shellcheck disable=SC2086
     [ -z "$sanitized" ] || by_wrapper -std=c++20 $sanitized
-    run c++ -std=c++17 -fsyntax-only -Wall -Wextra -Werror -Iinclude -DCASE=0 tests/c/must_not_compile.cpp
+    for compiler in c++ clang++; do
+        command -v "$compiler" > /dev/null || continue
+        run "$compiler" -std=c++17 -fsyntax-only -Wall -Wextra -Werror -Iinclude -DCASE=0 tests/c/must_not_compile.cpp
+    done
     for case in 1 2 3 11 12; do rejects $case 'deleted.*parse'; done
     for case in 13 14; do rejects $case 'non-const lvalue reference'; done
     rejects 15 'binding reference.*qualifier'
@@ -76,6 +79,8 @@ if command -v c++ > /dev/null; then
     rejects 8 'operator\[\]'
     rejects 9 'deleted.*find'
     rejects 10 'operator=='
+    for case in 16 17; do rejects $case 'call to.*find'; done
+    rejects 18 'conversion from.*parser'
 else
     left_out="$left_out C++ (no c++);"
 fi

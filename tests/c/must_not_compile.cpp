@@ -13,12 +13,14 @@ int main() {
     const simd_json_document document{};
     const auto root = parser.parse("[1]");
     std::string text("[1]");
+    struct { simd_json::parser parser; } service{};
     element (simd_json::parser::*const lend)(std::string &) & = &simd_json::parser::parse;
 #if CASE == 0
     const simd_json::element of(document);
     for (const auto element : parser.parse("[1]").array())
         std::printf("%u", element.kind());
-    return static_cast<int>(root[0].kind() + parser.root().kind() + (parser.*lend)(text).kind());
+    return static_cast<int>(root[0].kind() + parser.root().kind() + (parser.*lend)(text).kind()
+                            + service.parser.parse("[1]").find(0)->kind());
 #elif CASE == 1
     const auto element = simd_json::parser().parse("[1]");
 #elif CASE == 2
@@ -50,5 +52,11 @@ int main() {
     const auto element = (parser.*lend)(std::move(text));
 #elif CASE == 15
     const auto element = (parser.*lend)(std::as_const(text));
+#elif CASE == 16
+    const auto element = root.find(true);
+#elif CASE == 17
+    const auto element = root.find(0.5);
+#elif CASE == 18
+    const simd_json::parser shallow = 1;
 #endif
 }
