@@ -143,7 +143,7 @@ typedef struct {
  *     for (size_t n = 0; n < nodes[object].len; n++, at = simd_json_next(nodes, at + 1))
  *         use_pair(&nodes[at], &nodes[at + 1]); */
 static inline size_t simd_json_next(const simd_json_node *nodes, size_t i) {
-    return i + 1 + (nodes[i].kind >= SIMD_JSON_ARRAY ? (size_t)nodes[i].value : 0);
+    return i + 1 + (nodes[i].kind >= SIMD_JSON_ARRAY ? nodes[i].value : 0);
 }
 
 /* Checks whether the input is a document. It may be a string literal, or memory that cannot be written. It is copied only if it
