@@ -1,7 +1,8 @@
 #!/bin/sh
 # Runs the section "Install" of README.md as it is printed there: its `sh` blocks in an empty folder beside this repository, with
-# its `rust` block saved under the name that the text gives, compares what is printed, and tries `make vendor` where something
-# is there already. It proves nothing: the first `rt run` takes about ten minutes. Silent where all is well, else status 1.
+# its `rust` block saved under the name that the text gives, compares what is printed, tries the blocks of docs/READING.md, and
+# tries `make vendor` where something is there already. It proves nothing: the first `rt run` takes about ten minutes. Silent
+# where all is well, else status 1.
 set -eu
 top=$(cd "$(dirname "$0")/.." && pwd)
 room=$(mktemp -d)
@@ -28,6 +29,18 @@ awk -v ticks='```' '
 tail -n 1 "$room/out" | cmp -s - "$room/wanted" || wrong "README.md, Install: not what it says is printed: $(cat "$room/out")"
 [ -z "$(find "$room"/empty/crates/simd_json* -mindepth 1 -maxdepth 1 ! -name src ! -name specs ! -name proofs ! -name 'LICENSE-*')" ] ||
     wrong "make vendor copies more than src, specs, proofs and the licenses"
+
+# Each `rust` block of docs/READING.md compiles as it is printed there.
+mkdir -p "$room/empty/crates/reading/src"
+echo 'reading: simd_json fast_float' >> "$room/empty/crates.txt"
+awk -v ticks='```' -v folder="$room/empty/crates/reading/src" '
+    BEGIN { print "//! The blocks, each in a module.\n#![tactic(auto)]\n" }
+    $0 == ticks { file = "" }
+    file != "" { print > file }
+    $0 == ticks "rust" { file = folder "/block" ++blocks ".rt"; print "mod block" blocks ";" }
+    END { print "\nfn main(_rt: HostRuntime) {}" }
+' "$top/docs/READING.md" > "$room/empty/crates/reading/src/main.rt"
+(cd "$room/empty/crates/reading" && rt try) > "$room/out" 2>&1 || wrong "docs/READING.md: $(cat "$room/out")"
 
 # again FOLDER STATUS: copies into the folder once more, which must leave all as it is.
 again() {
