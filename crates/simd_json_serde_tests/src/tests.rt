@@ -11,6 +11,7 @@ mod errors;
 mod examples;
 mod memory;
 mod scalars;
+mod taggings;
 mod types;
 mod writing;
 

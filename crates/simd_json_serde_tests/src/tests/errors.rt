@@ -101,7 +101,10 @@ fn mismatches_name_the_fields(rt: HostRuntime) {
     let folders = r#"[{"size":1,"folders":[]},{"b":[2],"size":1}] @ /1/b: unknown field
 [{"size":1,"folders":[{"size":[]}]}] @ /0/folders/0/size: expected an integer, found an array"#;
     assert_words::<Vec<Folder>>(&rt, alloc, folders);
-    let placed = r#"[{"id":1,"x":2,"y":"3"}] @ /0/y: expected an integer, found a string"#;
+    let placed = r#"[{"id":1,"x":2,"y":"3"}] @ /0/y: expected an integer, found a string
+[{"y":1,"z":[{"x":1}],"id":1}] @ /0: missing field `x`
+[{"x":1,"id":1,"x":2,"y":3}] @ /0/x: duplicate field `x`
+[[]] @ /0: expected an object, found an array"#;
     assert_words::<Vec<Placed>>(&rt, alloc, placed);
 }
 
@@ -109,13 +112,23 @@ fn mismatches_name_the_fields(rt: HostRuntime) {
 fn mismatches_of_enums_have_a_path(rt: HostRuntime) {
     let alloc = rt.alloc();
     let shapes = r#"["Dot",{"Square":1}] @ /1/Square: unknown variant
-["Dot",{"Circle":{"radius":"1"}}] @ /1/Circle/radius: expected a number, found a string"#;
+["Dot",{"Circle":{"radius":"1"}}] @ /1/Circle/radius: expected a number, found a string
+[{"Line":[1,[2]]}] @ /0/Line/1: expected an integer, found an array
+[{"Line":[1]}] @ /0/Line: the array has another length
+[{"Dot":null,"Line":[1,2]}] @ /0/Line: the value does not fit the type"#;
     assert_words::<Vec<Shape>>(&rt, alloc, shapes);
     let commands = r#"[{"kind":"stop"},{"kind":"fly"}] @ /1: unknown variant
 [{"x":1,"y":"a","kind":"move_to"}] @ /0/y: expected an integer, found a string
-[{"x":1}] @ /0: missing field `kind`"#;
+[{"x":1}] @ /0: missing field `kind`
+[{"x":[{"y":1}],"kind":"move_to","y":2}] @ /0/x: expected an integer, found an array
+[{"kind":"stop","x":1,"kind":"stop"}] @ /0/kind: duplicate field `kind`
+[{"kind":1}] @ /0/kind: expected a string, found an integer"#;
     assert_words::<Vec<Command>>(&rt, alloc, commands);
-    let messages = r#"[{"c":1,"t":"Text"}] @ /0/c: expected a string, found an integer"#;
+    let messages = r#"[{"c":1,"t":"Text"}] @ /0/c: expected a string, found an integer
+[{"t":"Point","c":{"x":256}}] @ /0/c/x: the value does not fit the type
+[{"t":"Text","z":{"c":1}}] @ /0: missing field `c`
+[{"c":1}] @ /0: missing field `t`
+[{"c":"a","t":"Text","c":"b"}] @ /0/c: duplicate field `c`"#;
     assert_words::<Vec<Message>>(&rt, alloc, messages);
     let either = r#"[1,[2],"a",{"b":[1]}] @ /3: the value does not fit the type"#;
     assert_words::<Vec<Either>>(&rt, alloc, either);
