@@ -120,6 +120,56 @@ fn printed_values_are_strings(rt: HostRuntime) {
     assert_eq!(rt; text.as_str(), r#""\"12\".0""#);
 }
 
+#[derive(Drop, Serialize)]
+struct Flat<T> {
+    id: u8,
+    #[serde(flatten)]
+    inner: T,
+    last: bool,
+}
+
+fn assert_flat<T: Serialize + Drop>(rt: &impl Abort, alloc: Global, inner: T, wanted: &str) {
+    let flat = Flat {
+        id: 1,
+        inner,
+        last: true,
+    };
+    let text = to_string(alloc, &flat).ok().expect(rt, MEMORY);
+    assert_eq!(rt; text.as_str(), wanted);
+}
+
+// The members of an object, also of one in it, or nothing.
+#[test]
+fn objects_are_flattened(rt: HostRuntime) {
+    let alloc = rt.alloc();
+    let mut map = BTreeMap::new(alloc);
+    assert_flat(&rt, alloc, &map, r#"{"id":1,"last":true}"#);
+    let inserted: Result<_, _> = map.insert(-7i8, ("a", [1.5]));
+    assert!(rt; inserted.is_ok(), "{}", MEMORY);
+    assert_flat(&rt, alloc, &map, r#"{"id":1,"-7":["a",[1.5]],"last":true}"#);
+    assert_flat(
+        &rt,
+        alloc,
+        Some(&map),
+        r#"{"id":1,"-7":["a",[1.5]],"last":true}"#,
+    );
+    assert_flat(&rt, alloc, (), r#"{"id":1,"last":true}"#);
+    let inner = Flat {
+        id: 2,
+        inner: &map,
+        last: false,
+    };
+    let wanted = r#"{"id":1,"id":2,"-7":["a",[1.5]],"last":false,"last":true}"#;
+    assert_flat(&rt, alloc, inner, wanted);
+    let flat = Flat {
+        id: 1,
+        inner: [2u8],
+        last: true,
+    };
+    let text = to_vec(alloc, &flat);
+    assert!(rt; matches!(text, Err(WriteError::Misplaced)), "no object");
+}
+
 // `serde_json` writes null for such a float.
 #[test]
 fn what_has_no_text_is_an_error(rt: HostRuntime) {
