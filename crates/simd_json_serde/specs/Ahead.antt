@@ -84,13 +84,14 @@ as_float format _ = None
 
 -- ---- what comes, and what can be entered or skipped
 
+-- past 64 bits an integer is a float to a type that asks for the kind
 abbrev pub kind_in : Item → Kind
 kind_in (static_item fixed.Null) = kinds.Unit
 kind_in (static_item (fixed.Bool b)) = kinds.Bool
 kind_in (static_item (fixed.I64 z)) = kinds.Signed
 kind_in (static_item (fixed.U64 n)) = kinds.Unsigned
-kind_in (static_item (fixed.I128 z)) = kinds.Signed
-kind_in (static_item (fixed.U128 n)) = kinds.Unsigned
+kind_in (static_item (fixed.I128 z)) = kinds.Float
+kind_in (static_item (fixed.U128 n)) = kinds.Float
 kind_in (decimal_item t) = kinds.Float
 kind_in (string_item t) = kinds.Str
 kind_in (array_item len count) = kinds.Seq

@@ -167,7 +167,8 @@ impl Mismatch {
     }
 
     /// The name of a field that is missing or there twice, or the message of
-    /// [`MismatchKind::Custom`]: of both the first 32 bytes. Else it is empty.
+    /// [`MismatchKind::Custom`]: of both at most 32 bytes, and `...` at the end of one that is cut.
+    /// Else it is empty.
     pub fn name(&self) -> &str
         ensures { result.now ≡ given_name self.now }
     {

@@ -560,9 +560,10 @@ fn kind_of(node: &Node<'_>) -> Kind
     match node {
         Node::Static(StaticNode::Null) => Kind::Unit,
         Node::Static(StaticNode::Bool(_)) => Kind::Bool,
-        Node::Static(StaticNode::I64(_) | StaticNode::I128(_)) => Kind::Signed,
-        Node::Static(StaticNode::U64(_) | StaticNode::U128(_)) => Kind::Unsigned,
-        Node::Decimal(_) => Kind::Float,
+        Node::Static(StaticNode::I64(_)) => Kind::Signed,
+        Node::Static(StaticNode::U64(_)) => Kind::Unsigned,
+        // Types that ask, as `Value` of `serde_json`, have no integer past 64 bits.
+        Node::Static(StaticNode::I128(_) | StaticNode::U128(_)) | Node::Decimal(_) => Kind::Float,
         Node::String(_) => Kind::Str,
         Node::Array { .. } => Kind::Seq,
         Node::Object { .. } => Kind::Map,

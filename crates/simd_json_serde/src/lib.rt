@@ -66,6 +66,7 @@
 //! - An integer outside -2^127 to 2^128 - 1 is a parse error, also for a float.
 //! - The depth limit is the parse's, 1,024 unless set; recursive types end at 256 levels of their
 //!   own.
+//! - An integer as a key may be written with escapes. A float is written as a key, and not read.
 //!
 //! # What is proved
 //!

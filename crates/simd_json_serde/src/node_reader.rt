@@ -33,7 +33,7 @@ pub struct NodeReader<'n, 'i> {
     name: Cell<FaultName>,
 }
 
-/// A place to go back to.
+/// A place to go back to, while the containers that are open there still are.
 #[derive(Clone, Copy, Drop)]
 pub struct Mark {
     pub(crate) at: usize,

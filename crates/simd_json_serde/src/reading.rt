@@ -127,7 +127,7 @@ impl Kept {
 
     /// Reserves capacity for inputs of up to `input_len` bytes, 36 bytes for each. With as much in
     /// buffers, which their [`reserve`](Buffers::reserve) sees to, a read of such an input allocates
-    /// what the type itself owns, and nothing else.
+    /// what the type does, and nothing else.
     ///
     /// Returns an error if an allocation fails; what has been reserved by then stays.
     pub fn reserve(&mut self, input_len: usize) -> Result<(), AllocError>
@@ -147,7 +147,8 @@ impl Kept {
 ///
 /// Returns errors as [`from_slice`] does, with the depth limit of the buffers. After a reservation
 /// for inputs as long, with [`Buffers::reserve`] and [`Kept::reserve`], it allocates what the type
-/// itself owns, and nothing else.
+/// does, and nothing else: what it owns, a list for an array `[T; N]`, and for a recursive type a
+/// box for each of 256 levels.
 pub fn read<'de, T: Deserialize<'de>>(
     input: &'de mut [u8],
     buffers: &mut Buffers<Global>,

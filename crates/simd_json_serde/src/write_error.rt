@@ -16,7 +16,7 @@ pub enum WriteError {
     /// A flattened value is no object, or a `Serialize` that was written by hand has its steps in
     /// another order than that of a JSON text.
     Misplaced,
-    /// A message of the type's own, of which the first 32 bytes are kept.
+    /// A message of the type's own: at most 32 bytes, and `...` at the end of one that is cut.
     Custom(InlineText<MESSAGE_LEN>),
     /// An allocation failed.
     OutOfMemory,

@@ -184,6 +184,10 @@ fn maps_tuples_and_numbers_agree(rt: HostRuntime) {
     assert_eq!(rt; values_beside::<u128>(&rt, alloc, SCALARS, &theirs), 9);
     assert_eq!(rt; values_beside::<char>(&rt, alloc, SCALARS, &theirs), 1);
     assert_eq!(rt;
+        values_beside::<serde_json::Value>(&rt, alloc, SCALARS, &theirs),
+        17
+    );
+    assert_eq!(rt;
         values_beside::<(u8, String, Option<bool>)>(&rt, alloc, SCALARS, &theirs),
         2
     );
