@@ -16,10 +16,11 @@ for program in jtape_main:jtape jcheck_main:jcheck jpick_main:jpick log_report_m
 done
 different=0
 
-# Each command prints itself, then what it writes to standard output and standard error. Its status is that of the next `$?`.
+# Each command prints itself, then what it writes to standard output and standard error, as on a terminal. Its status is that of the
+# next `$?`.
 for page in README.md docs/LINES.md; do
     awk '/^```/ { inside = !inside; shown = 0; next } inside && /^\$ / { shown = 1 } shown' "$top/$page" > "$room/wanted"
-    awk '/^\$ / { print "s=$?; cat <<\\END\n" $0 "\nEND\n{ (exit $s); " substr($0, 3) "; } 2> errors; s=$?; cat errors; (exit $s)" }' \
+    awk '/^\$ / { print "s=$?; cat <<\\END\n" $0 "\nEND\n{ (exit $s); " substr($0, 3) "; } 2>&1; s=$?; (exit $s)" }' \
         "$room/wanted" > "$room/script"
     (cd "$room" && PATH=$room/build:$PATH sh script) > "$room/found" 2>&1
     diff -U 1 "$room/wanted" "$room/found" || different=1
