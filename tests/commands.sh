@@ -48,15 +48,37 @@ sed 's/ -[a-zA-Z],//' "$room/helped" | sort > "$room/options"
 # In a manual a word between quotes loses them, unless they are written otherwise.
 grep -nE '^[.](Dl|D1|Ql) .* "' "$top"/man/*.1 && different=1
 bash -c '. "$1"
+    compopt() { files="no file"; }
+    # Completes the last of these words.
+    completed() {
+        files=files COMP_WORDS=("$@") COMP_CWORD=$(($# - 1))
+        _simd_json "$1" "${!#}" "${COMP_WORDS[COMP_CWORD - 1]}"
+    }
     for program in jcheck jpick log_report; do
-        _simd_json $program -- $program
+        completed $program --
         printf "$program %s\n" "${COMPREPLY[@]}"
     done
-    COMP_CWORD=1 && _simd_json jtape "" jtape && printf "jtape %s\n" "${COMPREPLY[@]}"
-    COMP_WORDS=(jcheck --color = a) && COMP_CWORD=3 && _simd_json jcheck a = && echo "--color=${COMPREPLY[*]}"' - \
+    completed jtape "" && printf "jtape %s\n" "${COMPREPLY[@]}"
+    completed jcheck --color = a && echo "--color=${COMPREPLY[*]}"
+    for words in "jtape tape l" "jtape tape < l" "jpick --depth 1" "jpick --where = @" "log_report --and k" "log_report k l" "jcheck -- -"; do
+        completed $words
+        echo "$words: ${COMPREPLY[*]:-$files}"
+    done' - \
     "$top/completions/simd_json.bash" > "$room/completed"
-{ cat "$room/options"; sed -n 's/^[.]It Cm /jtape /p' "$top/man/jtape.1"; echo '--color=auto always'; } |
-    diff -U 0 - "$room/completed" || different=1
+{
+    cat "$room/options"
+    sed -n 's/^[.]It Cm /jtape /p' "$top/man/jtape.1"
+    cat << 'END'
+--color=auto always
+jtape tape l: no file
+jtape tape < l: files
+jpick --depth 1: no file
+jpick --where = @: no file
+log_report --and k: no file
+log_report k l: files
+jcheck -- -: files
+END
+} | diff -U 0 - "$room/completed" || different=1
 
 # Commands of rt and make, scripts and files that these pages name.
 rt help > "$room/help" 2>&1
