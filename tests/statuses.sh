@@ -133,6 +133,11 @@ for mode in tape positions compact pretty lines; do
         wanted "a full disk, $mode" 3 '' 'writing failed\n'
     fi
 done
+# Who has closed the output has had enough of it: more is written than a pipe holds.
+awk 'BEGIN { for (i = 0; i < 100000; i++) print "[12345]" }' > "$room/many"
+{ "$program" lines < "$room/many" 2> "$room/err"; echo $? > "$room/status"; } | head -n 1 > "$room/out"
+status=$(cat "$room/status")
+wanted 'a closed pipe, lines' 3 '[12345]\n' ''
 : > "$room/err"
 echo '[1' | "$program" tape > "$room/out" 2>&-
 status=$?
@@ -421,8 +426,26 @@ wanted 'a file that is not there' 3 '1\n1\n' 'jpick: missing\n'
 
 slowly 'a slow pipe, fields' 1 '1\n2\n' 'FILE:2:4: expected a value, found `]` [InternalError]\n' /k
 
-# A reader that goes away before all is written: more than a pipe holds.
-awk 'BEGIN { for (i = 0; i < 100000; i++) print "[12345]" }' > "$room/many"
+# The row of a line is written before more is read, also where that ended with the line.
+mkfifo "$room/pipe"
+"$program" /k < "$room/pipe" > "$room/out" 2> "$room/err" &
+exec 3> "$room/pipe"
+for number in 1 2; do
+    printf '{"k":%d}\n' "$number" >&3
+    tries=0
+    until [ "$(wc -l < "$room/out")" -eq "$number" ] || [ "$tries" -eq 50 ]; do
+        sleep 0.1
+        tries=$((tries + 1))
+    done
+done
+cp "$room/out" "$room/early"
+exec 3>&-
+wait "$!"
+status=$?
+mv "$room/early" "$room/out"
+wanted 'rows while the input is open' 0 '1\n2\n' ''
+
+# A reader that goes away before all is written.
 # picked FILE: the fields of the lines of the file, for a reader that takes the first alone.
 picked() {
     { "$program" /0 < "$1" 2> "$room/err"; echo $? > "$room/status"; } | head -n 1 > "$room/out"

@@ -21,6 +21,10 @@ pub record Cut : Type 0 where
   pub has_ended : Bool
   pub unread : List ℕ
 
+-- a line has ended, and nothing is left of what was read
+abbrev pub IsBetween : Cut → Type 0
+IsBetween c = (c.has_ended ≡ true) × (c.unread ≡ [])
+
 -- what is kept of a line: of one that is too long one byte more than it may have
 abbrev pub kept : ℕ → List ℕ → List ℕ
 kept longest line = take (longest + 1) line

@@ -1,6 +1,6 @@
 //! The lines of a reader, one after another, in memory that does not depend on their number.
-ghost use Rattle.std.specs.Prelude.{◌≡◌, [], false, true, IfOk};
-ghost use Rattle.jsonl.specs.Lines.{EndsRead, Fills, Moves, Takes, begun_of};
+ghost use Rattle.std.specs.Prelude.{◌≡◌, [], false, true, Ok, IfOk, IsTrue, IsFalse};
+ghost use Rattle.jsonl.specs.Lines.{EndsRead, Fills, IsBetween, Moves, Takes, begun_of};
 
 use crate::channel::Channel;
 use crate::failure::Failure;
@@ -17,7 +17,7 @@ const BLOCK: usize = 65_536;
 pub enum Step {
     /// The end of a line.
     Line,
-    /// All that was read, without the end of a line.
+    /// All that was read: more of the line, or the next one, has to be read.
     Block,
     /// None: the input has ended, and its last line with it.
     End,
@@ -67,7 +67,8 @@ impl Lines {
 
     /// Goes on to the next end of a line, or else to the end of what was read. Of the line that has
     /// begun the bytes are in `line`, which may be overwritten after a `Line`. It reads at most
-    /// once, where nothing is left of what was read before.
+    /// once, where nothing is left of what was read before, and not where a line ended there: then
+    /// it returns `Block` first, since a reader may wait for more.
     ///
     /// Fails with `Read` if reading fails, and with `Resources` if an allocation does: a line takes
     /// a capacity of one byte more than it may have.
@@ -77,12 +78,18 @@ impl Lines {
         line: &mut Vec<u8, A>,
     ) -> Result<Step, Failure>
         requires { reader.old.failed ≡ false }
-        ensures { EndsRead reader.new.failed (R.remaining reader.old.inner)
+        ensures moves { EndsRead reader.new.failed (R.remaining reader.old.inner)
             (R.remaining reader.new.inner)
             (Moves self.old self.new line.old.items line.new.items
             (R.remaining reader.old.inner) (R.remaining reader.new.inner)) result }
+        ensures waits { IsBetween self.old
+            → (result ≡ Ok Step.Block) × (reader.new ≡ reader.old) }
     {
+        let is_between = self.is_between();
         self.begin(line);
+        if is_between {
+            return Ok(Step::Block);
+        }
         if !self.fill(reader)? {
             return Ok(Step::End);
         }
@@ -90,6 +97,14 @@ impl Lines {
             return Ok(Step::Line);
         }
         Ok(Step::Block)
+    }
+
+    // Whether a line has ended, and nothing is left of what was read.
+    fn is_between(&self) -> bool
+        ensures yes { IsTrue result → IsBetween self.now }
+        ensures no { IsFalse result → IsBetween self.now → ⊥ }
+    {
+        self.has_ended && self.start == self.end
     }
 
     // Lets a line go that has ended.

@@ -3,8 +3,8 @@ use jsonl::Channel;
 use std::marker::Model;
 
 /// A reader or a writer for [`run`](crate::run) that records whether a call on it failed and
-/// whether it ended. Only the run's own calls set these flags, [`failed`](Port::failed) and
-/// [`ended`](Port::ended).
+/// whether it ended. Only the run's own calls set these flags, [`failed`](Port::failed),
+/// [`closed`](Port::closed) and [`ended`](Port::ended).
 #[derive(Drop)]
 pub struct Port<T> {
     pub(crate) channel: Channel<T>,
@@ -36,6 +36,13 @@ impl<T> Port<T> {
         ensures { result ≡ self.now.failed }
     {
         self.channel.failed()
+    }
+
+    /// Whether a write returned an error of kind `BrokenPipe`: who reads the output has had enough.
+    pub fn closed(&self) -> bool
+        ensures { result ≡ self.now.closed }
+    {
+        self.channel.closed()
     }
 
     /// Whether a read into a non-empty buffer returned 0.

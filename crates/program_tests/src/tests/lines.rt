@@ -80,9 +80,37 @@ fn a_failed_read_is_no_line(rt: HostRuntime) {
         fault: Some(ErrorKind::BrokenPipe),
     });
     let (mut lines, mut line) = (Lines::new(3), Vec::new(rt.alloc()));
+    assert_eq!(rt; lines.next(&mut reader, &mut line), Ok(Step::Block));
     assert_eq!(rt; lines.next(&mut reader, &mut line), Ok(Step::Line));
     assert_eq!(rt; lines.next(&mut reader, &mut line), Ok(Step::Block));
     assert_eq!(rt; lines.next(&mut reader, &mut line), Err(Failure::Read));
+}
+
+// Who writes rows at a `Block` has written those of all lines before more is read.
+#[test]
+fn a_block_comes_before_each_read(rt: HostRuntime) {
+    let mut reader = Channel::new(Blocks {
+        rest: b"a\nb\nc\n",
+        size: 4,
+        fault: None,
+    });
+    let (mut lines, mut line) = (Lines::new(3), Vec::new(rt.alloc()));
+    let (block, end) = ((Step::Block, b"".as_slice()), (Step::End, b"".as_slice()));
+    let (a, b, c) = (b"a".as_slice(), b"b".as_slice(), b"c".as_slice());
+    let steps = [
+        block,
+        (Step::Line, a),
+        (Step::Line, b),
+        block,
+        (Step::Line, c),
+        block,
+        end,
+    ];
+    for wanted in steps {
+        let step = lines.next(&mut reader, &mut line);
+        assert_eq!(rt; step, Ok(wanted.0));
+        assert_eq!(rt; line.as_slice(), wanted.1);
+    }
 }
 
 // The output that failed is named, and a closed one is no failure.

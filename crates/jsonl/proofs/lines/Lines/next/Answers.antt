@@ -4,8 +4,8 @@ use Rattle.jsonl.specs.Lines.{Cut, Takes, kept}
 use Rattle.jsonl.proofs.Cuts.{cut-begun, cut-ended, cut-filled, cut-last, cut-taken, keeps-line, unfilled}
 use Rattle.jsonl.proofs.lines.Lines.next.Goals as goal
 
-pub returns-then-not-branch : goal.returns-then-not-branch
-returns-then-not-branch g c =
+pub returns-then-not-branch-clause-moves : goal.returns-then-not-branch-clause-moves
+returns-then-not-branch-clause-moves g c =
     let filled = c.in_ok-fill.ensures.1 in
     let end = filled.end c.if-not-branch.true in
     let longest : c.fill.new.self.longest ≡ c.args.self.now.longest =
@@ -28,8 +28,8 @@ returns-then-not-branch g c =
       ),
     )
 
-pub returns-then-branch : goal.returns-then-branch
-returns-then-branch g c =
+pub returns-then-branch-clause-moves : goal.returns-then-branch-clause-moves
+returns-then-branch-clause-moves g c =
     let filled = c.in_ok-fill.ensures.1 in
     let taken = subst (Takes c.fill.new.self c.take.new.self c.begin.new.line.items c.take.new.line.items) c.if-branch.true
     c.in_ok-take.ensures in
@@ -55,8 +55,8 @@ returns-then-branch g c =
       ),
     )
 
-pub returns : goal.returns
-returns g c =
+pub returns-clause-moves : goal.returns-clause-moves
+returns-clause-moves g c =
     let filled = c.in_ok-fill.ensures.1 in
     let taken = subst (Takes c.fill.new.self c.take.new.self c.begin.new.line.items c.take.new.line.items) c.if-branch.false
     c.in_ok-take.ensures in

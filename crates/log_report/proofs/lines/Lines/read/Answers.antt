@@ -43,29 +43,29 @@ loop-preserved g c =
       | in-Line+in_ok-count-in-Line v ↦
           let counted = v.in_ok-count-in-Line.ensures c.loop.invariant.err in
           rw (v.self-is, v.line-is, v.err-is) (record {
-            reader = c.in_ok-next.ensures.0;
+            reader = c.in_ok-next.ensures.moves.0;
             err = counted.0;
             counted = line-taken g.R.Read.remaining g.E.Write.contents old c.loop.self first c.loop.reader names c.loop.err file
                 c.loop.lines c.loop.line.items v.count.new.self c.next.new.self c.next.new.line.items _ c.next.new.reader v.count.new.err at
                 (subst (Moves c.loop.lines c.next.new.self c.loop.line.items c.next.new.line.items (g.R.Read.remaining c.loop.reader.inner)
-                (g.R.Read.remaining c.next.new.reader.inner)) v.in-Line.is c.in_ok-next.ensures.1)
+                (g.R.Read.remaining c.next.new.reader.inner)) v.in-Line.is c.in_ok-next.ensures.moves.1)
                 (subst (CountsLine g.E.Write.contents c.loop.self v.count.new.self c.loop.err v.count.new.err)
                 v.as_mut_slice.ensures.value counted.1);
           })
       | in-Block v ↦
           rw (v.self-is, v.line-is, v.err-is) (record {
-            reader = c.in_ok-next.ensures.0;
+            reader = c.in_ok-next.ensures.moves.0;
             err = c.loop.invariant.err;
             counted = block-at g.R.Read.remaining g.E.Write.contents old c.loop.self first c.loop.reader names c.loop.err file
                 c.loop.lines c.loop.line.items c.next.new.self c.next.new.line.items c.next.new.reader at
                 (subst (Moves c.loop.lines c.next.new.self c.loop.line.items c.next.new.line.items (g.R.Read.remaining c.loop.reader.inner)
-                (g.R.Read.remaining c.next.new.reader.inner)) v.in-Block.is c.in_ok-next.ensures.1);
+                (g.R.Read.remaining c.next.new.reader.inner)) v.in-Block.is c.in_ok-next.ensures.moves.1);
           })
     ]
 
 pub returns-in_err-next : goal.returns-in_err-next
 returns-in_err-next g c =
-    let failed = c.in_err-next.ensures in
+    let failed = c.in_err-next.ensures.moves in
     input-handed-on c.from_residual.result _ _ _ _ _ c.from_residual.ensures.1
     (λ e is. is ∙ read-fault _ _ _ c.loop.invariant.err failed.0) (λ is. c.loop.invariant.err)
     (reading-begun g.R.Read.remaining g.E.Write.contents c.args.self.now c.loop.self c.args.reader.now c.loop.reader c.args.err.now
@@ -74,22 +74,22 @@ returns-in_err-next g c =
 pub returns-in_err-count-in-Line : goal.returns-in_err-count-in-Line
 returns-in_err-count-in-Line g c =
     let failed = c.in_err-count-in-Line.ensures c.loop.invariant.err in
-    let none = c.in_ok-next.ensures.0 in
+    let none = c.in_ok-next.ensures.moves.0 in
     input-handed-on c.from_residual-in_err-count-in-Line.result _ _ _ _ _ c.from_residual-in_err-count-in-Line.ensures.1
     (λ e is. is ∙ failed.0 ∙ ap (λ b. input_fault b c.count.new.err.failed) (sym none)) (λ is. cc)
     (line-begun g.R.Read.remaining g.E.Write.contents c.args.self.now c.loop.self c.args.reader.now c.loop.reader c.args.err.now
     c.loop.err c.args.file.now c.loop.lines c.loop.line.items c.next.new.self c.next.new.line.items c.next.new.reader c.count.new.err
     c.loop.invariant.counted
     (subst (Moves c.loop.lines c.next.new.self c.loop.line.items c.next.new.line.items (g.R.Read.remaining c.loop.reader.inner)
-    (g.R.Read.remaining c.next.new.reader.inner)) c.in-Line.is c.in_ok-next.ensures.1)
+    (g.R.Read.remaining c.next.new.reader.inner)) c.in-Line.is c.in_ok-next.ensures.moves.1)
     (subst (BeginsCountedLine g.E.Write.contents c.loop.self c.loop.err c.count.new.err) c.as_mut_slice.ensures.value failed.1))
 
 pub returns-in-End : goal.returns-in-End
 returns-in-End g c =
     let at = c.loop.invariant.counted in
     let moves = subst (Moves c.loop.lines c.next.new.self c.loop.line.items c.next.new.line.items (g.R.Read.remaining c.loop.reader.inner)
-    (g.R.Read.remaining c.next.new.reader.inner)) c.in-End.is c.in_ok-next.ensures.1 in
-    input-named c.count-in-End.result _ _ _ _ _ _ c.in_ok-next.ensures.0
+    (g.R.Read.remaining c.next.new.reader.inner)) c.in-End.is c.in_ok-next.ensures.moves.1 in
+    input-named c.count-in-End.result _ _ _ _ _ _ c.in_ok-next.ensures.moves.0
     (λ taken. end-taken g.R.Read.remaining g.E.Write.contents c.args.self.now c.loop.self c.args.reader.now c.loop.reader c.args.err.now
     c.loop.err c.args.file.now c.loop.lines c.loop.line.items c.count-in-End.new.self c.next.new.self c.next.new.line.items
     c.next.new.reader c.count-in-End.new.err at moves
