@@ -122,6 +122,7 @@ for crate in $proved; do
     [ -d "$gate/crates/$crate/out" ] || continue
     mkdir -p "crates/$crate/out"
     for made in "$gate/crates/$crate/out"/*; do
+        [ -e "$made" ] || continue
         rm -rf "crates/$crate/out/$(basename "$made")"
         mv "$made" "crates/$crate/out/"
     done
