@@ -57,7 +57,7 @@
 //!   is written again.
 //! - `serde` tests the UTF-8 of each borrowed string again, by characters. To borrow took 0.95 to
 //!   0.99 times as long as to own for lines of a log, 1.05 to 1.08 times for tweets, of which much
-//!   is not ASCII, and by [`borrowed_str`] 0.97 to 0.98 times for these.
+//!   is not ASCII, and by [`borrowed_str`] 0.97 to 1.01 times for these.
 //! - A read of a tape, as [`from_value`], takes no memory for nodes.
 //!
 //! # Differences from `serde_json`
