@@ -1,5 +1,6 @@
 //! The nodes of a tape.
 ghost use Rattle.std.specs.Prelude.{◌≡◌};
+ghost use Rattle.simd_json_parts.specs.Headers.{count_of};
 ghost use Rattle.simd_json_parts.specs.Nodes.{item_of};
 ghost use Rattle.simd_json_parts.specs.NodeTypes.{static_type, item_type};
 
@@ -177,6 +178,22 @@ impl Node<'_> {
             Node::Array { .. } => ValueType::Array,
             Node::Static(value) => value.value_type(),
             Node::Decimal(_) => ValueType::Decimal,
+        }
+    }
+
+    /// The number of nodes after this one that belong to it: those of its members if it is the
+    /// header of an array or an object, and 0 otherwise.
+    // Not a `match`: its jump table would cost more than the rest of a step over a value.
+    #[inline(always)]
+    pub fn count(&self) -> usize
+        ensures { result ≡ count_of (item_of self.now) }
+    {
+        if let Node::Array { count, .. } = *self {
+            count
+        } else if let Node::Object { count, .. } = *self {
+            count
+        } else {
+            0
         }
     }
 }
