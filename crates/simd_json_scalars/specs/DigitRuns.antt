@@ -1,4 +1,4 @@
--- Runs of digits. It serves proofs: only the crate's private clauses cite it.
+-- Runs of digits, and words of eight bytes.
 use Rattle.std.specs.Prelude.{◌≡◌, ℕ, Bool, not, List, length, map, bit_xor}
 use Rattle.std.specs.Char.{is_ascii_digit}
 use Rattle.std.specs.Int.Digits.{AllBelowBase}

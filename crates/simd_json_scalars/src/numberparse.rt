@@ -15,7 +15,7 @@ mod plain;
 mod short;
 
 pub use integers::{integer_node, parse_long};
-pub use short::parse_short;
+pub use short::{digit_word, digits_len, parse_short, value_of_digits};
 
 /// The front of some bytes, read as a number.
 #[derive(Clone, Copy, Debug, Drop, PartialEq, Eq)]

@@ -96,10 +96,10 @@ fn parse_longest(bytes: &[u8]) -> Numeral
     Numeral::Integer((high * 100_000_000 + middle) * 100_000_000 + low)
 }
 
-// The eight bytes from an index on, the first lowest. A digit becomes its value, any other byte 10
-// or more.
+/// Returns the eight bytes from index `at` on as a word, the first lowest. A digit becomes its
+/// value, any other byte 10 or more.
 #[inline(always)]
-pub(super) fn digit_word(bytes: &[u8], at: usize) -> u64
+pub fn digit_word(bytes: &[u8], at: usize) -> u64
     requires { at + 8 ≤ length bytes.now }
     ensures word { result ≡ word_of (take 8 (drop at bytes.now)) }
     ensures bytes { AreEightBytes (take 8 (drop at bytes.now)) }
@@ -116,10 +116,11 @@ pub(super) fn digit_word(bytes: &[u8], at: usize) -> u64
     ]) ^ 0x3030_3030_3030_3030
 }
 
-// The number of digits before the first other byte, or eight. No digit carries into the byte after
-// it, so the lowest bit is that of the first byte of 10 or more.
+/// Returns the number of digits before the first other byte of a [`digit_word`], or eight.
+// No digit carries into the byte after it, so the lowest bit is that of the first byte of 10 or
+// more.
 #[inline(always)]
-pub(super) fn digits_len(word: u64) -> usize
+pub fn digits_len(word: u64) -> usize
     ensures most { result ≤ 8 }
     ensures run { (b : List ℕ) → AreEightBytes b → word ≡ word_of b
         → result ≡ prefix_len is_ascii_digit b }
@@ -128,11 +129,11 @@ pub(super) fn digits_len(word: u64) -> usize
     stops.trailing_zeros() as usize / 8
 }
 
-// The number that the first `len` of the eight spell. They are moved up behind zeros and joined to
-// pairs; two multiplications add the pairs, each times its power of 100, in the upper half, as in
-// simdjson after J. Lee, "Fast numeric string to int".
+/// Returns the number that the first `len` bytes of a [`digit_word`] spell, if all are digits.
+// They are moved up behind zeros and joined to pairs; two multiplications add the pairs, each times
+// its power of 100, in the upper half, as in simdjson after J. Lee, "Fast numeric string to int".
 #[inline(always)]
-pub(super) fn value_of_digits(word: u64, len: usize) -> u64
+pub fn value_of_digits(word: u64, len: usize) -> u64
     requires some { 0 < len }
     requires most { len ≤ 8 }
     ensures fits { result < 2 ^ 32 }
