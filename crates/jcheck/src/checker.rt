@@ -3,7 +3,7 @@ ghost use Rattle.std.specs.Prelude.{◌≡◌, IfOk, reverse, take};
 ghost use Rattle.jcheck.specs.Messages.{closes, last_open, open_bracket, opens};
 ghost use Rattle.simd_json_check.specs.Reasons.{found_in};
 
-use simd_json_check::{ErrorType, Index, Location};
+use simd_json_check::{ErrorType, Location};
 use simd_json_parts::charutils::byte_or_space;
 use std::alloc::{AllocError, Global};
 
@@ -11,7 +11,7 @@ use std::alloc::{AllocError, Global};
 #[derive(Drop)]
 pub struct Checker {
     alloc: Global,
-    index: Index,
+    checker: simd_json_check::Checker,
     depth: usize,
 }
 
@@ -22,7 +22,7 @@ impl Checker {
     {
         Checker {
             alloc,
-            index: Index::empty(alloc),
+            checker: simd_json_check::Checker::empty(alloc),
             depth,
         }
     }
@@ -37,7 +37,7 @@ impl Checker {
         ensures found { IfOk result (λ found. found ≡ found_in input.now self.old.depth) }
         ensures depth { self.new.depth ≡ self.old.depth }
     {
-        self.index.locate(input, self.depth)
+        self.checker.locate(input, self.depth)
     }
     /// Returns the index of the last bracket that is not closed, or `None` if there is none, or if
     /// the whole input has an error.
@@ -45,8 +45,8 @@ impl Checker {
         ensures found { IfOk result (λ found. found ≡ open_bracket input.now) }
         ensures depth { self.new.depth ≡ self.old.depth }
     {
-        match self.index.find(input) {
-            Ok(()) => Ok(last_open(input, self.index.structural_indexes())),
+        match self.checker.index.scan(input) {
+            Ok(()) => Ok(last_open(input, self.checker.index.structural_indexes())),
             Err(e) if *e.error() == ErrorType::OutOfMemory => Err(AllocError),
             Err(_) => Ok(None),
         }

@@ -16,9 +16,9 @@ use crate::runs::RunFault;
 use crate::words::Layout;
 use jsonl::Channel;
 use simd_json::{Buffers, Node, to_tape_with_buffers};
-use simd_json_check::lists::lengthen;
 use simd_json_print::document::{Level, put_compact_within, put_pretty_within};
 use simd_json_print::text::Text;
+use simd_json_stages::stage1::lengthen;
 use std::alloc::Allocator;
 use std::io::Write;
 

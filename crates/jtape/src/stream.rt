@@ -21,10 +21,10 @@ use crate::runs::RunFault;
 use jsonl::Channel;
 use memchr::memchr;
 use simd_json::{Buffers, Error, ErrorType, Tape, fill_tape};
-use simd_json_check::lists::lengthen;
 use simd_json_parts::charutils::is_blank;
 use simd_json_print::document::{Level, put_compact_within};
 use simd_json_print::text::{Target, Text};
+use simd_json_stages::stage1::lengthen;
 use std::alloc::{AllocError, Allocator};
 use std::io::Write;
 

@@ -9,7 +9,7 @@
 
 use anyhow::{Result, bail};
 use memchr::memchr;
-use simd_json_ondemand::{ErrorType, Expected, Index, Unexpected, Value};
+use simd_json_ondemand::{Document, ErrorType, Expected, Index, Unexpected, Value};
 use std::io::{BufRead, BufReader, BufWriter, Write};
 use std::process::ExitCode;
 use std::{env, io};
@@ -36,7 +36,7 @@ fn program(rt: &HostRuntime) -> Result<()> {
         if !read_line(&mut input, &mut line)? {
             break;
         }
-        match index.find(line.as_slice()) {
+        match Document::scan(&mut index, line.as_slice()) {
             Ok(document) => {
                 let stopped = print_fields(&mut output, document.as_value(), &words)?;
                 if let Some(unexpected) = stopped {

@@ -3,7 +3,7 @@ use Rattle.std.proofs.Common.{◌≡◌, ◌∙◌, ap, sym, subst, inl, inr, �
 use Rattle.std.specs.Result.{result_err}
 use Rattle.simd_json_parts.specs.Pieces.{is_blank}
 use Rattle.simd_json.proofs.Views.Listed.{known}
-use Rattle.simd_json_check.specs.Capacities.{default_max_depth}
+use Rattle.simd_json_stages.specs.Capacities.{default_max_depth}
 use Rattle.simd_json.specs.Parsed.{HasMemory}
 use Rattle.simd_json.specs.Parsed.{IsParse, IsParsed}
 use Rattle.simd_json_parts.specs.Answer.{answer}

@@ -3,7 +3,7 @@ use Rattle.std.specs.Prelude.{ℕ, List, [], ◌∷◌, ◌++◌, codes, length,
 use Rattle.std.specs.Prelude.{◌==◌, if◌then◌else◌}
 use Rattle.std.specs.Fmt.{decimal}
 use Rattle.simd_json_parts.specs.Pieces.{pieces, is_blank}
-use Rattle.simd_json_check.specs.Capacities.{default_max_depth}
+use Rattle.simd_json_stages.specs.Capacities.{default_max_depth}
 use Rattle.simd_json_parts.specs.Answer.{answer}
 use Rattle.simd_json_parts.specs.Bytes.{line_feed}
 use Rattle.simd_json_parts.specs.Document.{Document}

@@ -6,7 +6,7 @@ use Rattle.jsonl.specs.Failures.{Begins, SaysClosed, is_write, name_fault, outpu
 use Rattle.jsonl.specs.Ports.{Watched}
 use Rattle.jsonl.specs.declared.failure.Failure.{Failure}
 use Rattle.jsonl.specs.declared.failure.Failure.TheVariants.{Read, Name, Closed, Resources}
-use Rattle.simd_json_check.specs.Capacities.{default_max_depth}
+use Rattle.simd_json_stages.specs.Capacities.{default_max_depth}
 use Rattle.simd_json.specs.Reserved.{IsReserved}
 use Rattle.simd_json_parts.specs.Document.{Document}
 use Rattle.simd_json_parts.specs.declared.error.Error.{Error}

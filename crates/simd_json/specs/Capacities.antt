@@ -1,6 +1,6 @@
 -- What a contract sees of buffers.
 use Rattle.std.specs.Prelude.{◌≡◌, ◌≤◌, ℕ, List, length, min, max, nat_lt, if◌then◌else◌, None}
-use Rattle.simd_json_check.specs.Capacities as lists
+use Rattle.simd_json_stages.specs.Capacities as lists
 use Rattle.simd_json_parts.specs.InputFaults.{input_fault}
 use Rattle.simd_json_parts.specs.Positions.{positions}
 use Rattle.simd_json_stages.specs.EscapeBlocks.{backslash_blocks, blocks_in}

@@ -14,7 +14,7 @@ use Rattle.simd_json_parts.specs.Nodes.{Item}
 use Rattle.simd_json_parts.specs.Positions.{positions}
 use Rattle.simd_json_parts.specs.declared.error.Error.{Error}
 use Rattle.simd_json_parts.specs.declared.error.ErrorType.TheVariants.{OutOfMemory}
-use Rattle.simd_json_check.specs.Capacities.{LacksMemory, positions_after}
+use Rattle.simd_json_stages.specs.Capacities.{LacksMemory, positions_after}
 use Rattle.simd_json.specs.Tapes.{Listed}
 
 -- no allocation failed

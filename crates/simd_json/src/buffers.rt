@@ -4,15 +4,15 @@ ghost use Rattle.std.specs.Prelude.{◌≡◌, ◌≤◌, ◌<◌, ◌⊎◌, []
 ghost use Rattle.std.specs.Prelude.{OnOk, OnErr, IfOk, IfErr, Some};
 ghost use Rattle.simd_json.specs.Capacities.{HoldsScan, KeepsCapacities, ListsSame, capacity};
 ghost use Rattle.simd_json.specs.Capacities.{new_buffers, with_room};
-ghost use Rattle.simd_json_check.specs.Capacities.{IsOutOfMemory, LacksMemory, capped};
-ghost use Rattle.simd_json_check.specs.Capacities.{default_max_depth};
+ghost use Rattle.simd_json_stages.specs.Capacities.{IsOutOfMemory, LacksMemory, capped};
+ghost use Rattle.simd_json_stages.specs.Capacities.{default_max_depth};
 ghost use Rattle.simd_json_parts.specs.InputFaults.{input_fault};
 
 use crate::DEFAULT_MAX_DEPTH;
-use simd_json_check::lists::lengthen;
-use simd_json_check::{FEW_OPEN, Index};
 use simd_json_parts::error::Result;
+use simd_json_stages::stage1::lengthen;
 use simd_json_stages::stage2::StackState;
+use simd_json_stages::{FEW_OPEN, Index};
 use std::alloc::{Allocator, Global};
 use std::marker::Model;
 
@@ -164,8 +164,9 @@ impl<A: Allocator> Buffers<A> {
         ensures fault { IfErr result (λ e. (input_fault input.now ≡ Some e)
             ⊎ (LacksMemory input.now e × (capacity self.old < length input.now))) }
     {
-        self.index.find(input)?;
-        let open = self.index.structural_indexes().len().min(self.max_depth);
+        self.index.scan(input)?;
+        let positions = self.index.scanned().structural_indexes.len();
+        let open = positions.min(self.max_depth);
         if open > FEW_OPEN
             && let Err(e) = lengthen(&mut self.stack, open, StackState::EMPTY)
         {

@@ -5,7 +5,7 @@ ghost use Rattle.std.specs.Prelude.{IsFalse, IfOk, Some};
 ghost use Rattle.std.specs.Result.{result_err};
 ghost use Rattle.simd_json_parts.specs.Views.{ok_map};
 ghost use Rattle.simd_json.specs.Capacities.{KeepsCapacities};
-ghost use Rattle.simd_json_check.specs.Capacities.{default_max_depth};
+ghost use Rattle.simd_json_stages.specs.Capacities.{default_max_depth};
 ghost use Rattle.simd_json.specs.Parsed.{IsParse, nodes_of};
 ghost use Rattle.simd_json.specs.Steps.{Stepped, steps_from};
 ghost use Rattle.simd_json.specs.Viewed.{doc};

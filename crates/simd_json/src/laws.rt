@@ -7,7 +7,7 @@ ghost use Rattle.std.specs.Result.{result_err};
 ghost use Rattle.simd_json.specs.Beneath.{beneath, descendants};
 ghost use Rattle.simd_json.specs.Parsed.{HasMemory};
 ghost use Rattle.simd_json.specs.Parsed.{IsPaddedParse, IsParse, IsRejected, answered_nodes};
-ghost use Rattle.simd_json_check.specs.Capacities.{positions_after};
+ghost use Rattle.simd_json_stages.specs.Capacities.{positions_after};
 ghost use Rattle.simd_json.specs.Capacities.{KeepsCapacities, Capacities, capacity};
 ghost use Rattle.simd_json_parts.specs.Answer.{answer};
 ghost use Rattle.simd_json_parts.specs.Document.{Document};

@@ -31,7 +31,6 @@
 //! | keep the tape too | [`fill_tape`] |
 //! | read each input into the same memory | [`refill_tape`] |
 //! | read an input that [`INPUT_PADDING`] bytes follow | [`fill_tape_padded`] |
-//! | learn whether an input is a document, without a tape | [`check`] |
 //! | exclude `OutOfMemory` for inputs up to a size | [`reserve`], before the parses |
 //! | make nodes of your own, without a tape | [`fill_sink`] with a [`NodeSink`] |
 //! | the same with texts that stay in the input | [`fill_spans`] with a [`SpanSink`] |
@@ -43,7 +42,6 @@
 //! | print a value | [`encode`](tape::Value::encode), [`write`](tape::Value::write) |
 //! | print it with a line for each member | [`encode_pp`](tape::Value::encode_pp), `write_pp` |
 //! | quote and escape a string | [`append_quoted`], [`write_quoted`] |
-//! | find line, column and reason of an error | [`Location`], [`locate`] |
 //!
 //! # Errors
 //!
@@ -58,6 +56,9 @@
 //!
 //! If an allocation fails, `OutOfMemory` is returned: only for inputs of right size and encoding.
 //! Views return `None`, or a [`TryTypeError`] with the expected kind and the value's.
+//!
+//! `simd_json_check` finds the line, the column and the reason of an error. Without a tape it also
+//! checks that an input is a document.
 //!
 //! # Costs
 //!
@@ -86,13 +87,11 @@ pub mod value;
 pub use buffers::Buffers;
 pub use deserializer::Deserializer;
 pub use kept::{SpanNode, keep_spans};
-pub use parse::{
-    check, fill_tape, fill_tape_padded, refill_tape, reserve, to_tape, to_tape_with_buffers,
-};
-pub use simd_json_check::{DEFAULT_MAX_DEPTH, Location, Reason, locate};
+pub use parse::{fill_tape, fill_tape_padded, refill_tape, reserve, to_tape, to_tape_with_buffers};
 pub use simd_json_parts::error::{Error, ErrorType, Result};
 pub use simd_json_parts::node::{Node, StaticNode, TryTypeError, ValueType};
 pub use simd_json_print::document::{append_quoted, write_quoted};
+pub use simd_json_stages::DEFAULT_MAX_DEPTH;
 pub use simd_json_stages::stage2::{Container, ListSink, NodeSink, Original, SpanSink};
 pub use sink::fill_sink;
 pub use spans::fill_spans;

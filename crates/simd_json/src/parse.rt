@@ -1,15 +1,15 @@
 //! The entry points that make a tape. Each finds the structural indexes of its input into the
-//! buffers (`find_positions`), and then builds nodes from them (`build`). `check` builds none.
+//! buffers (`find_positions`), and then builds nodes from them (`build`).
 ghost use Rattle.std.specs.Prelude.{◌≡◌, ◌≢◌, ◌≤◌, ◌<◌, [], ℕ, List};
 ghost use Rattle.std.specs.Prelude.{length, map, vec_capacity};
 ghost use Rattle.std.specs.Prelude.{IfErr, IfOk, OnOk, OnErr, None, Err, ◌⊎◌};
 ghost use Rattle.std.specs.Result.{result_err};
 ghost use Rattle.simd_json.specs.Parsed.{IsPaddedParse, IsParse, IsParseResult};
-ghost use Rattle.simd_json.specs.Parsed.{IsParsed, IsRejected, nodes_of};
+ghost use Rattle.simd_json.specs.Parsed.{nodes_of};
 ghost use Rattle.simd_json.specs.Capacities.{HoldsScan, KeepsCapacities, ListsSame, capacity};
 ghost use Rattle.simd_json.specs.Capacities.{with_room};
-ghost use Rattle.simd_json_check.specs.Capacities.{IsOutOfMemory, IsUnchecked, LacksMemory};
-ghost use Rattle.simd_json_check.specs.Capacities.{capped, default_max_depth, positions_after};
+ghost use Rattle.simd_json_stages.specs.Capacities.{IsOutOfMemory, LacksMemory};
+ghost use Rattle.simd_json_stages.specs.Capacities.{capped, default_max_depth};
 ghost use Rattle.simd_json.specs.Parsed.{HasMemory};
 ghost use Rattle.simd_json.specs.Reserved.{IsReserved, parse_capacity};
 ghost use Rattle.simd_json_parts.specs.Descent.{descent};
@@ -137,7 +137,7 @@ pub fn fill_tape<'de, A: Allocator, B: Allocator>(
 {
     tape.clear();
     buffers.find_positions(s)?;
-    let positions = buffers.structural_indexes().len();
+    let positions = buffers.index.scanned().structural_indexes.len();
     if let Err(e) = tape.reserve(nodes_enough(positions, buffers.max_depth)) {
         buffers.clear();
         return Err(e);
@@ -232,55 +232,6 @@ pub fn refill_tape<'de, A: Allocator, B: Allocator>(
     let mut tape = tape.reset();
     let answer = fill_tape(s, buffers, &mut tape);
     (answer, tape)
-}
-
-/// Checks that the bytes are one document (RFC 8259), with at most `max_depth` containers open at a
-/// time; 0 allows scalars only. The input is shared and stays unchanged, and there is no tape.
-///
-/// The errors are those of [`to_tape`], the first that a parse within the same depth limit returns.
-/// If an allocation fails, `OutOfMemory` is returned, and only if size and encoding are right.
-///
-/// It takes four bytes for each structural index, and for an input that it rejects, or whose
-/// containers are nested more than 64 deep, one for each byte of the input. All of it is freed
-/// before it returns. For many inputs keep buffers, and call their [`check`](Buffers::check).
-///
-/// ```
-/// use simd_json::{DEFAULT_MAX_DEPTH, check};
-///
-/// // Where the bytes are no JSON text, if they are not.
-/// fn first_error(rt: &impl AllocGlobal, input: &[u8]) -> Option<usize> {
-///     match check(rt.alloc(), input, DEFAULT_MAX_DEPTH) {
-///         Ok(()) => None,
-///         Err(e) => Some(e.index()),
-///     }
-/// }
-/// ```
-pub fn check<A: Allocator + Copy>(a: A, input: &[u8], max_depth: usize) -> Result<()>
-    ensures parsed { OnOk result ((nodes : List Item) × IsParsed input.now max_depth nodes) }
-    ensures rejected { IfErr result (λ e. IsRejected input.now max_depth e
-        ⊎ LacksMemory input.now e) }
-{
-    Buffers::empty(a, max_depth).check(input)
-}
-
-impl<A: Allocator> Buffers<A> {
-    /// Checks that the bytes are one document within the depth limit of the buffers, as [`check`]
-    /// does, and with its errors, over memory that the buffers keep. Afterwards they list the
-    /// structural indexes of the input, unless the error has no character.
-    ///
-    /// `OutOfMemory` is returned only if no earlier check left capacity for as many bytes as the
-    /// input has.
-    pub fn check(&mut self, input: &[u8]) -> Result<()>
-        ensures parsed { OnOk result
-            ((nodes : List Item) × IsParsed input.now self.old.limit nodes) }
-        ensures rejected { IfErr result (λ e. IsRejected input.now self.old.limit e
-            ⊎ IsUnchecked input.now self.old.limit self.old.index e) }
-        ensures found { self.new.index.listed ≡ positions_after input.now (result_err result) }
-        ensures limit { self.new.limit ≡ self.old.limit }
-        ensures capacities { KeepsCapacities self.old self.new }
-    {
-        self.index.check(input, self.max_depth)
-    }
 }
 
 /// Reserves capacity in buffers and tape for inputs of up to `input_len` bytes (more than

@@ -2,7 +2,7 @@
 use Rattle.std.specs.Prelude.{◌≡◌, ℕ, List, length, Ok, Err, ℤ, negsuc}
 use Rattle.simd_json_parts.specs.Answer.{answer}
 use Rattle.simd_json_parts.specs.Document.{Document}
-use Rattle.simd_json_check.specs.Capacities.{default_max_depth}
+use Rattle.simd_json_stages.specs.Capacities.{default_max_depth}
 use Rattle.simd_json_parts.specs.Listing.{listing}
 use Rattle.simd_json_parts.specs.declared.error.Error.{Error}
 

@@ -9,7 +9,7 @@ use Rattle.simd_json_parts.specs.Document.{Document}
 use Rattle.simd_json_parts.specs.Listing.{listing}
 use Rattle.simd_json_parts.specs.Nodes.{Item}
 use Rattle.simd_json_parts.specs.declared.error.Error.{Error}
-use Rattle.simd_json_check.specs.Capacities.{check_capacity}
+use Rattle.simd_json_check.specs.Checkers.{check_capacity}
 use Rattle.simd_json_c.specs.Calls.{IsCheckOf}
 use Rattle.simd_json_c.specs.Chosen.{IsChosenPut, IsPrintedWith, IsTapedWith}
 use Rattle.simd_json_c.specs.Kept.{IsCheckedWith, IsReadWith, KeepsLists}
@@ -31,7 +31,7 @@ AreKeptOpen old new was lists = (old ≡ Some was) × (new ≡ Some lists) × Ke
 
 pub checked-with : (old new : Option Lists) (was lists : Lists) (b : List ℕ) (r : Result ℤ Error) (status : ℤ) (place : ErrorPlace)
     → AreKeptOpen old new was lists → IsReported r status place
-    → IsCheckOf b was.buffers.limit (check_capacity was.buffers.limit was.buffers.index) (result_err r) → IfOk r (λ s. s ≡ pos 0)
+    → IsCheckOf b was.buffers.limit (check_capacity was.buffers.limit was.checker) (result_err r) → IfOk r (λ s. s ≡ pos 0)
     → IsCheckedWith old new b status place
 checked-with old new was lists b (Ok s) status place kept told is zero =
     rw kept.0 (lists, kept.1, kept.2, (None, is, told.1 ∙ zero, told.0))

@@ -2,7 +2,7 @@
 use Rattle.std.specs.Prelude.{◌≡◌, ◌≤◌, ◌<◌, ◌⊎◌, ◌++◌, ℕ, ℤ, pos, List, length, drop, Option, Some, None}
 use Rattle.simd_json_parts.specs.Nodes.{Item}
 use Rattle.simd_json_parts.specs.declared.error.Error.{Error}
-use Rattle.simd_json_check.specs.Capacities.{LacksMemory}
+use Rattle.simd_json_stages.specs.Capacities.{LacksMemory}
 use Rattle.simd_json.specs.Parsed.{IsParsed, IsRejected}
 use Rattle.simd_json_c.specs.Statuses.{error_place, error_status, too_little_room}
 use Rattle.simd_json_c.specs.declared.status.ErrorPlace.{ErrorPlace}

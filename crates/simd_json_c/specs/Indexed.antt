@@ -3,7 +3,7 @@ use Rattle.std.specs.Prelude.{◌≡◌, ◌<◌, ◌⊎◌, ℕ, ℤ, pos, List
 use Rattle.simd_json_parts.specs.InputFaults.{input_fault}
 use Rattle.simd_json_parts.specs.Positions.{positions}
 use Rattle.simd_json_parts.specs.declared.error.Error.{Error}
-use Rattle.simd_json_check.specs.Capacities.{LacksMemory}
+use Rattle.simd_json_stages.specs.Capacities.{LacksMemory}
 use Rattle.simd_json_c.specs.Calls.{IsAtFront}
 use Rattle.simd_json_c.specs.Statuses.{error_place, error_status, too_little_room}
 use Rattle.simd_json_c.specs.declared.status.ErrorPlace.{ErrorPlace}

@@ -3,8 +3,8 @@ use Rattle.std.specs.Prelude.{◌≡◌, ◌≤◌, ◌⊎◌, ℕ, ℤ, pos, Li
 use Rattle.std.specs.Vec.{vec_capacity}
 use Rattle.simd_json.specs.Capacities.{KeepsCapacities, capacity, new_buffers}
 use Rattle.simd_json.specs.Parsed.{IsParseResult}
-use Rattle.simd_json_check.specs.Capacities as lists
-use Rattle.simd_json_check.specs.Capacities.{check_capacity}
+use Rattle.simd_json_stages.specs.Capacities as lists
+use Rattle.simd_json_check.specs.Checkers.{KeepsChecker, check_capacity, new_checker}
 use Rattle.simd_json_parts.specs.Nodes.{Item}
 use Rattle.simd_json_parts.specs.declared.error.Error.{Error}
 use Rattle.simd_json_c.specs.Statuses.{out_of_memory, parser_closed, error_place}
@@ -17,6 +17,7 @@ use Rattle.simd_json_c.specs.declared.status.ErrorPlace.{ErrorPlace}
 abbrev pub KeepsRoom : Lists → Lists → Type 0
 KeepsRoom old new =
     (new.buffers.limit ≡ old.buffers.limit) × KeepsCapacities old.buffers new.buffers × (old.tape.capacity ≤ new.tape.capacity)
+    × KeepsChecker old.checker new.checker
     × (vec_capacity old.printed ≤ vec_capacity new.printed) × (length old.levels.items ≤ length new.levels.items)
     × (vec_capacity old.nodes ≤ vec_capacity new.nodes)
 
@@ -38,7 +39,8 @@ IsReadWith lists b fault ns = IsParseResult b lists.buffers.limit (capacity list
 
 -- lists with no capacity yet, and no input
 abbrev pub AreNew : ℕ → Lists → Type 0
-AreNew limit lists = (lists.buffers ≡ new_buffers 0 limit) × (lists.source.is_scanned ≡ false)
+AreNew limit lists =
+    (lists.buffers ≡ new_buffers 0 limit) × (lists.checker ≡ new_checker) × (lists.source.is_scanned ≡ false)
 
 abbrev pub IsOpened : ℕ → ℤ → Option Lists → Type 0
 IsOpened limit status parser =
@@ -54,4 +56,4 @@ IsCallWith old new status place Same Is =
 abbrev pub IsCheckedWith : Option Lists → Option Lists → List ℕ → ℤ → ErrorPlace → Type 0
 IsCheckedWith old new b status place =
     IsCallWith old new status place ⊤
-    (λ was lists. IsChecked b was.buffers.limit (check_capacity was.buffers.limit was.buffers.index) status place)
+    (λ was lists. IsChecked b was.buffers.limit (check_capacity was.buffers.limit was.checker) status place)

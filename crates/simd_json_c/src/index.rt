@@ -17,7 +17,7 @@ fn index(alloc: Global, input: &[u8], indexes: &mut [u32], used: &mut usize) -> 
         × (used.new ≡ used.old) × (indexes.new ≡ indexes.old)) }
 {
     let mut index = Index::empty(alloc);
-    index.find(input)?;
+    index.scan(input)?;
     let listed = index.structural_indexes();
     *used = listed.len();
     if listed.len() > indexes.len() {

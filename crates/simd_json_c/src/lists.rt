@@ -4,8 +4,7 @@ ghost use Rattle.std.specs.Prelude.{pos};
 ghost use Rattle.std.specs.Ptr.{as_mut_ptr, as_ptr};
 ghost use Rattle.std.specs.Result.{result_err};
 ghost use Rattle.std.specs.Vec.{vec_capacity};
-ghost use Rattle.simd_json.specs.Capacities.{KeepsCapacities};
-ghost use Rattle.simd_json_check.specs.Capacities.{check_capacity};
+ghost use Rattle.simd_json_check.specs.Checkers.{KeepsChecker, check_capacity};
 ghost use Rattle.simd_json_parts.specs.Document.{Document};
 ghost use Rattle.simd_json_parts.specs.Listing.{listing};
 ghost use Rattle.simd_json_parts.specs.Nodes.{Item};
@@ -21,6 +20,7 @@ use crate::print::print_at;
 use crate::source::Source;
 use crate::status::{ErrorPlace, NO_VALUE, OUT_OF_MEMORY, reported};
 use simd_json::{Buffers, Result, Tape, keep_spans, refill_tape};
+use simd_json_check::Checker;
 use simd_json_print::document::Level;
 use std::alloc::Global;
 use std::mem::replace;
@@ -35,19 +35,18 @@ pub extern "C" fn simd_json_check(
 ) -> i32
     ensures { IsChecked input.now max_depth 0 result place.new }
 {
-    let mut buffers = Buffers::empty(alloc, max_depth);
-    reported(check(&mut buffers, input), place)
+    let mut checker = Checker::empty(alloc);
+    reported(check(&mut checker, input, max_depth), place)
 }
 
 // Returns 0 if the input is a document, or its error.
-fn check(buffers: &mut Buffers, input: &[u8]) -> Result<i32>
-    ensures checked { IsCheckOf input.now buffers.old.limit
-        (check_capacity buffers.old.limit buffers.old.index) (result_err result) }
+fn check(checker: &mut Checker, input: &[u8], max_depth: usize) -> Result<i32>
+    ensures checked { IsCheckOf input.now max_depth
+        (check_capacity max_depth checker.old) (result_err result) }
     ensures zero { IfOk result (λ status. status ≡ pos 0) }
-    ensures kept { (buffers.new.limit ≡ buffers.old.limit)
-        × KeepsCapacities buffers.old buffers.new }
+    ensures kept { KeepsChecker checker.old checker.new }
 {
-    match buffers.check(input) {
+    match checker.check(input, max_depth) {
         Ok(()) => Ok(0),
         Err(e) => Err(e),
     }
@@ -58,6 +57,8 @@ fn check(buffers: &mut Buffers, input: &[u8]) -> Result<i32>
 pub struct Lists {
     // the lists of the first stage, the stack of the second, and the depth limit
     pub(crate) buffers: Buffers,
+    // those of a check
+    pub(crate) checker: Checker,
     // the tape of a document that is printed, empty between calls, and its text
     pub(crate) tape: Tape<'static>,
     pub(crate) printed: Vec<u8>,
@@ -76,6 +77,7 @@ impl Lists {
     {
         Lists {
             buffers: Buffers::empty(alloc, max_depth),
+            checker: Checker::empty(alloc),
             tape: Tape::empty(alloc),
             printed: Vec::new(alloc),
             levels: Vec::new(alloc),
@@ -87,11 +89,11 @@ impl Lists {
     // Returns 0 if the input is a document, or its error.
     pub(crate) fn check(&mut self, input: &[u8]) -> Result<i32>
         ensures checked { IsCheckOf input.now self.old.buffers.limit
-            (check_capacity self.old.buffers.limit self.old.buffers.index) (result_err result) }
+            (check_capacity self.old.buffers.limit self.old.checker) (result_err result) }
         ensures zero { IfOk result (λ status. status ≡ pos 0) }
         ensures kept { KeepsLists self.old self.new }
     {
-        check(&mut self.buffers, input)
+        check(&mut self.checker, input, self.buffers.max_depth())
     }
 
     // Prints the value that a pointer names in a document to the caller's memory. Returns 0,

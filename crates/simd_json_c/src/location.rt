@@ -1,12 +1,13 @@
 //! Where an input is rejected and why, for people.
 ghost use Rattle.std.specs.Prelude.{◌≡◌, IfErr, IfOk, string_bytes};
-ghost use Rattle.simd_json_check.specs.Capacities.{IsOutOfMemory};
+ghost use Rattle.simd_json_stages.specs.Capacities.{IsOutOfMemory};
 ghost use Rattle.simd_json_check.specs.Messages.{reason_text};
 ghost use Rattle.simd_json_c.specs.Located.{IsLocated, error_with, kind_with, position_of};
 
 use crate::print::lend_text;
 use crate::status::ErrorPlace;
-use simd_json::{Error, ErrorType, Location, Reason, Result};
+use simd_json::{Error, ErrorType, Result};
+use simd_json_check::{Location, Reason};
 use std::alloc::Global;
 
 /// A place in an input, for people.

@@ -4,7 +4,7 @@ ghost use Rattle.simd_json_parts.specs.InputFaults.{input_fault};
 ghost use Rattle.simd_json_parts.specs.Positions.{positions};
 
 use simd_json::Result;
-use simd_json_ondemand::{Index, Value};
+use simd_json_ondemand::{Document, Index, Value};
 use std::alloc::Global;
 
 /// An input in which values are found, or none.
@@ -27,7 +27,7 @@ impl Source {
     ghost use Rattle.simd_json_ondemand.specs.Docs.{doc};
     ghost use Rattle.simd_json_ondemand.specs.Sites.{site};
     ghost use Rattle.simd_json_parts.specs.Answer.{answer};
-    ghost use Rattle.simd_json_parts.specs.Document.{Document};
+    ghost use Rattle.simd_json_parts.specs.Document as parts;
     ghost use Rattle.simd_json_parts.specs.InputFaults.{input_fault};
     ghost use Rattle.simd_json_parts.specs.Pointed.{pointed};
     ghost use Rattle.simd_json_c.specs.Found.{site_named};
@@ -56,7 +56,7 @@ impl Source {
     {
         self.is_scanned = false;
         self.bytes.clear();
-        self.index.fill(input)?;
+        self.index.scan(input)?;
         self.bytes.extend_from_slice(input)?;
         self.is_scanned = true;
         Ok(0)
@@ -69,7 +69,7 @@ impl Source {
         ensures place { self.now.is_scanned ≡ true → IsUtf8 pointer.now
             → option_map site result ≡ site_named pointer.now self.now.bytes.items }
         ensures named { self.now.is_scanned ≡ true → IsUtf8 pointer.now
-            → (d : Document) (limit : ℕ) → answer self.now.bytes.items limit ≡ Ok d
+            → (d : parts.Document) (limit : ℕ) → answer self.now.bytes.items limit ≡ Ok d
             → option_map doc result
             ≡ option_map (λ e. Some e) (result_ok (pointed pointer.now d)) }
     {
@@ -77,7 +77,7 @@ impl Source {
             return None;
         }
         let pointer = str::from_utf8(pointer).ok()?;
-        let document = self.index.document(&self.bytes);
+        let document = Document::new(&self.index, &self.bytes);
         document.as_value().pointer(pointer)
     }
 }

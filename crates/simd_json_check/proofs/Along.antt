@@ -26,7 +26,7 @@ use Rattle.simd_json_stages.proofs.Machine.Steps.{is_end_array, is_end_object}
 use Rattle.simd_json_stages.proofs.Tokens.TokenForms as forms
 use Rattle.simd_json_parts.proofs.Positions.TokensAtPositions.{tokens-positions}
 use Rattle.simd_json_check.proofs.Enough.{kept, value_from-keeps}
-use Rattle.simd_json_check.proofs.Whole.{descent-answered}
+use Rattle.simd_json_stages.proofs.Whole.{descent-answered}
 use Rattle.simd_json_check.specs.Scalars.{scalar_of}
 use Rattle.simd_json_check.specs.Whole.{IsValue, IsElements, IsMembers}
 

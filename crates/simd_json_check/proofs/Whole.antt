@@ -1,5 +1,5 @@
 -- What the test of a whole input finds is what a parse answers.
-use Rattle.std.proofs.Common.{◌≡◌, ◌∙◌, ap, sym, refl, subst, ◌≤◌, ℕ, List, length, arith, cond}
+use Rattle.std.proofs.Common.{◌≡◌, ◌∙◌, ap, sym, refl, subst, ◌<◌, ◌≤◌, ℕ, List, length, arith, cond}
 use Rattle.std.proofs.Common.{Bool, true, false, not, Some, None, Ok, Err, IsUtf8, nat_lt, ◌⊎◌, inl, inr, [], ◌==◌, is_some}
 use Rattle.std.proofs.Common.{Result, IfSome}
 use Rattle.std.specs.Result.{IsErrAnd, result_err}
@@ -16,42 +16,12 @@ use Rattle.simd_json_parts.specs.Faults.{whole_fault}
 use Rattle.simd_json_parts.specs.InputFaults.{has_bad_string, input_fault}
 use Rattle.simd_json_parts.specs.Limits.{max_length}
 use Rattle.simd_json_parts.specs.Positions.{positions, is_position}
-use Rattle.simd_json_check.specs.Capacities.{IndexCapacities, IsFindError, IsUnchecked}
-use Rattle.simd_json_check.specs.Capacities.{positions_after}
+use Rattle.simd_json_check.specs.Checkers.{CheckerCapacities, IsUnchecked}
+use Rattle.simd_json_stages.proofs.Whole.{fault-answered}
+use Rattle.simd_json_stages.specs.Capacities.{IndexCapacities, IsScanError, capacity, positions_after}
 use Rattle.simd_json_parts.specs.declared.error.Error.{Error}
 use Rattle.simd_json_parts.specs.declared.error.ErrorType.TheVariants.{Eof, InputTooLarge, InvalidUtf8, OutOfMemory, Syntax}
 use Rattle.simd_json_stages.specs.NodesEnough.{nodes_enough}
-
--- ---- the answer
-
-pub fault-answered : (b : List ℕ) (limit : ℕ) (e : Error) → input_fault b ≡ Some e → answer b limit ≡ Err e
-unfolding answer
-fault-answered b limit e is = ap (λ o. fault_or o (descent b limit)) is
-
-pub descent-answered : (b : List ℕ) (limit : ℕ) → input_fault b ≡ None → answer b limit ≡ descent b limit
-unfolding answer
-descent-answered b limit is = ap (λ o. fault_or o (descent b limit)) is
-
--- ---- size and encoding
-
--- where nothing is wrong with the whole, they are right
-pub right-input : (b : List ℕ) → input_fault b ≡ None → (length b ≤ max_length) × IsUtf8 b
-right-input b none = let clean = IsClean-input b none in (clean.size, clean.utf8)
-
-pub few-positions : (b : List ℕ) → length (positions b) ≤ length b
-unfolding positions
-few-positions b = omega (
-  arith,
-  length-filter (is_position b) (indices b),
-  count_by-le-length (is_position b) (indices b),
-  length-range_with_len 0 (length b),
-)
-
--- so a sink with room for as many nodes has enough
-pub nodes-within : (b : List ℕ) (count limit : ℕ) → input_fault b ≡ None → count ≡ length (positions b)
-    → nodes_enough count limit ≤ max_length
-unfolding nodes_enough
-nodes-within b count limit none is = omega (arith, is, few-positions b, (right-input b none).0)
 
 -- ---- what is listed after an error
 
@@ -72,23 +42,24 @@ whole-silent : (b : List ℕ) → IfSome (input_fault b) IsSilent
 unfolding input_fault
 whole-silent b = either-silent (nat_lt max_length (length b)) (is_utf8 b) (has_bad_string b) (length (positions b) == 0)
 
-rejected-silent : (b : List ℕ) (before : IndexCapacities) (e : Error) → IsFindError b before e → IsSilent e
+rejected-silent : (b : List ℕ) (before : IndexCapacities) (e : Error) → IsScanError b before e → IsSilent e
 rejected-silent b before e (inl whole) = subst (λ o. IfSome o IsSilent) whole (whole-silent b)
-rejected-silent b before e (inr lacks) = ap (λ x. is_some x.character) lacks.0
+rejected-silent b before e (inr lacks) = ap (λ x. is_some x.character) lacks.0.0
 
 -- so nothing is listed where the first stage rejects
 pub rejected-listed : {A : Type 0} (r : Result A Error) (b : List ℕ) (before : IndexCapacities) (e : Error) (listed : List ℕ)
-    → IsErrAnd r (λ x. x ≡ e) → IsFindError b before e → listed ≡ [] → listed ≡ positions_after b (result_err r)
+    → IsErrAnd r (λ x. x ≡ e) → IsScanError b before e → listed ≡ [] → listed ≡ positions_after b (result_err r)
 rejected-listed (Ok x) b before e listed err rejected none = absurd err
 rejected-listed (Err x) b before e listed err rejected none =
     none ∙ ap (λ t. cond t (positions b) []) (sym (ap (λ x. is_some x.character) err ∙ rejected-silent b before e rejected))
 
 -- ---- what the first stage rejects
 
-pub check-rejected : (b : List ℕ) (limit : ℕ) (before : IndexCapacities) (e : Error) → IsFindError b before e
-    → (answer b limit ≡ Err e) ⊎ IsUnchecked b limit before e
-check-rejected b limit before e (inl whole) = inl (fault-answered b limit e whole)
-check-rejected b limit before e (inr (lacks, size, encoding, short)) = inr ((lacks, size, encoding), omega (arith, short))
+pub check-rejected : (b : List ℕ) (limit : ℕ) (index : IndexCapacities) (before : CheckerCapacities) (e : Error)
+    → index ≡ before.index → IsScanError b index e → (answer b limit ≡ Err e) ⊎ IsUnchecked b limit before e
+check-rejected b limit index before e same (inl whole) = inl (fault-answered b limit e whole)
+check-rejected b limit index before e same (inr (lacks, short)) =
+    inr (lacks, omega (arith, subst (λ i. capacity i < length b) same short))
 
 -- ---- want of memory
 

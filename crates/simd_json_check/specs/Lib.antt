@@ -1,5 +1,5 @@
--- What contracts see of an index, and the scalars along it.
-pub mod Capacities
+-- What contracts see of a checker, and the scalars along its index.
+pub mod Checkers
 pub mod Scanned
 pub mod Scalars
 -- What the test of a whole input finds.

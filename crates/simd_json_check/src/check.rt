@@ -4,8 +4,7 @@ ghost use Rattle.std.specs.Prelude.{◌≡◌, ◌≤◌, ◌<◌, ◌⊎◌, �
 ghost use Rattle.std.specs.Prelude.{Ok, Err, IsTrue, OnOk, IfErr, min, max};
 ghost use Rattle.std.specs.Result.{result_err};
 ghost use Rattle.std.specs.Vec.{vec_capacity};
-ghost use Rattle.simd_json_check.specs.Capacities.{IsNoShorter, LacksMemory, IsUnchecked};
-ghost use Rattle.simd_json_check.specs.Capacities.{positions_after};
+ghost use Rattle.simd_json_check.specs.Checkers.{IsUnchecked, KeepsChecker, new_checker};
 ghost use Rattle.simd_json_parts.specs.Answer.{answer};
 ghost use Rattle.simd_json_parts.specs.Descent.{descent};
 ghost use Rattle.simd_json_parts.specs.Document.{Document};
@@ -13,29 +12,71 @@ ghost use Rattle.simd_json_parts.specs.Limits.{max_length};
 ghost use Rattle.simd_json_parts.specs.Nodes.{Item};
 ghost use Rattle.simd_json_parts.specs.Positions.{positions};
 ghost use Rattle.simd_json_stages.specs.Building.{header_of};
+ghost use Rattle.simd_json_stages.specs.Capacities.{LacksMemory, positions_after};
 ghost use Rattle.simd_json_stages.specs.Scans.{IsScanOf};
 ghost use base.Fml.{ftrue};
 
-use crate::FEW_OPEN;
 use crate::escapes::are_escapes_valid;
-use crate::index::{Index, in_use};
-use crate::lists::lengthen;
 use crate::nested::value_end;
 use simd_json_parts::error::Result;
 use simd_json_parts::node::StaticNode;
+use simd_json_stages::stage1::lengthen;
 use simd_json_stages::stage2::{Container, NodeSink, Original, Scanned, StackState, build_tape};
-use std::alloc::Allocator;
+use simd_json_stages::{FEW_OPEN, Index};
+use std::alloc::{Allocator, Global};
 use std::marker::{Brand, Model};
 
-impl<A: Allocator> Index<A> {
-    /// Finds the structural indexes of an input, as [`find`](Index::find) does, and checks all of
+/// The memory that checks use one after another: an index, and that of a second pass over an input
+/// that is rejected or deeply nested.
+///
+/// Each list grows by what an input needs, and never shrinks. What it held before does not change a
+/// result. See [`check`](Checker::check).
+#[derive(Drop)]
+pub struct Checker<A: Allocator = Global> {
+    /// The structural indexes of the last input. To find them alone, call
+    /// [`scan`](Index::scan) of it.
+    pub index: Index<A>,
+    // the copy of an input that the second pass parses, and its stack, in use only during a check
+    copy: Vec<u8, A>,
+    stack: Vec<StackState, A>,
+}
+
+impl<A: Allocator> Model for Checker<A> {
+    ghost use Rattle.std.specs.Prelude.{length};
+    ghost use Rattle.std.specs.Vec.{vec_capacity};
+    ghost use Rattle.simd_json_check.specs.Checkers.{CheckerCapacities};
+
+    ghost Value = { CheckerCapacities };
+
+    ghost view = { λ c. record {
+      index = c.index;
+      copied = vec_capacity c.copy;
+      opened = length c.stack.items;
+    } };
+}
+
+impl<A: Allocator + Copy> Checker<A> {
+    /// Returns a checker that holds no memory yet.
+    pub fn empty(a: A) -> Checker<A>
+        ensures { result ≡ new_checker }
+    {
+        Checker {
+            index: Index::empty(a),
+            copy: Vec::new(a),
+            stack: Vec::new(a),
+        }
+    }
+}
+
+impl<A: Allocator> Checker<A> {
+    /// Finds the structural indexes of an input, as [`scan`](Index::scan) does, and checks all of
     /// it: that it is one document (RFC 8259) with at most `max_depth` containers open at a time; 0
     /// allows scalars only.
     ///
     /// Returns the first error of a parse by `simd_json` within that depth limit, with its kind,
     /// index and character:
     ///
-    /// - an error of the whole input, as [`find`](Index::find) returns it, or else
+    /// - an error of the whole input, as [`scan`](Index::scan) returns it, or else
     /// - that of the first token that is rejected, from the left: because another is expected
     ///   (RFC 8259, sections 2, 4 and 5), because of its letters (section 3), as a number
     ///   (section 6), for an escape (section 7), or because it opens a container beyond the limit
@@ -49,16 +90,16 @@ impl<A: Allocator> Index<A> {
     /// in place, without memory but for the structural indexes. For any other input the second
     /// stage of a parse runs, and keeps no node. A parse decodes strings in place, so it works on a
     /// copy of the input. It takes 24 bytes for each container that may be open (`max_depth`, or
-    /// one for each structural index, whichever is less) if these are more than 64. The index keeps
-    /// the memory of both for the next check.
+    /// one for each structural index, whichever is less) if these are more than 64. The checker
+    /// keeps the memory of both for the next check.
     ///
     /// ```
-    /// use simd_json_check::{ErrorType, Index, Result};
+    /// use simd_json_check::{Checker, ErrorType, Result};
     ///
     /// // Whether the bytes are a JSON text.
     /// fn is_json(rt: &impl AllocGlobal, input: &[u8]) -> Result<bool> {
-    ///     let mut index = Index::new(rt.alloc(), input.len())?;
-    ///     match index.check(input, 1024) {
+    ///     let mut checker = Checker::empty(rt.alloc());
+    ///     match checker.check(input, 1024) {
     ///         Ok(()) => Ok(true),
     ///         Err(e) if *e.error() == ErrorType::OutOfMemory => Err(e),
     ///         Err(_) => Ok(false),
@@ -67,13 +108,13 @@ impl<A: Allocator> Index<A> {
     /// ```
     pub fn check(&mut self, input: &[u8], max_depth: usize) -> Result<()>
         ensures document { OnOk result ((d : Document) × (answer input.now max_depth ≡ Ok d)) }
-        ensures listed { self.new.listed ≡ positions_after input.now (result_err result) }
-        ensures kept { IsNoShorter self.old self.new }
+        ensures listed { self.new.index.listed ≡ positions_after input.now (result_err result) }
+        ensures kept { KeepsChecker self.old self.new }
         ensures fault { IfErr result (λ e. (answer input.now max_depth ≡ Err e)
             ⊎ IsUnchecked input.now max_depth self.old e) }
     {
-        self.find(input)?;
-        let scanned = in_use(&self.indexes, &self.escape_blocks, self.used);
+        self.index.scan(input)?;
+        let scanned = self.index.scanned();
         if is_document(input, scanned, max_depth) {
             return Ok(());
         }
@@ -81,7 +122,7 @@ impl<A: Allocator> Index<A> {
         if let Err(e) = &parsed
             && e.character().is_none()
         {
-            self.clear();
+            self.index.clear();
         }
         parsed
     }

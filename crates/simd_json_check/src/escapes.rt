@@ -82,7 +82,7 @@ fn backslashes(bytes: u8x32) -> u64
     bytes.simd_eq(u8x32::splat(b'\\')).to_bitmask()
 }
 
-// The same where fewer bytes are left.
+// Finds it where fewer than 32 bytes are left.
 #[cold]
 fn backslash_or_end_slowly(input: &[u8], from: usize, end: usize) -> usize
     requires { (from ≤ end) × (end ≤ length input.now) }

@@ -5,14 +5,12 @@
 //!
 //! | to | call |
 //! |---|---|
-//! | check inputs one after another, over the same memory | [`Index::check`] |
-//! | find structural indexes alone | [`Index::find`], [`Index::structural_indexes`] |
-//! | exclude `OutOfMemory` of `find` for inputs up to a size | [`Index::reserve`] |
+//! | check inputs one after another, over the same memory | [`Checker::check`] |
 //! | find line, column and reason of an error | [`Location`] |
+//! | check, and find them | [`Checker::locate`] |
 //! | check one input, and find them | [`locate`] |
-//!
-//! [`scalars`] has readers of numbers, `true`, `false` and `null` for the crates above, and
-//! [`lists`] lengthens lists for them.
+//! | find structural indexes alone | [`Index::scan`], [`Index::structural_indexes`] |
+//! | exclude `OutOfMemory` of `scan` for inputs up to a size | [`Index::reserve`] |
 //!
 //! # Errors
 //!
@@ -24,19 +22,20 @@
 //!
 //! An index takes four bytes for each structural index, and as many for each block of 64 bytes that
 //! holds a backslash. A document with at most 64 containers open at a time is checked in place,
-//! without further memory. Any other input is copied for a second pass, which finds the error.
+//! without further memory. Any other input is copied for a second pass, which checks deeper
+//! documents too, and finds the error.
 //!
 //! # Example
 //!
 //! ```
-//! use simd_json_check::{DEFAULT_MAX_DEPTH, ErrorType, Index, Result};
+//! use simd_json_check::{Checker, DEFAULT_MAX_DEPTH, ErrorType, Result};
 //!
 //! // How many of the lines are JSON texts.
 //! fn count(rt: &impl AllocGlobal, lines: &[&[u8]]) -> Result<usize> {
-//!     let mut index = Index::new(rt.alloc(), 1024)?;
+//!     let mut checker = Checker::empty(rt.alloc());
 //!     let mut texts = 0usize;
 //!     for line in lines {
-//!         match index.check(line, DEFAULT_MAX_DEPTH) {
+//!         match checker.check(line, DEFAULT_MAX_DEPTH) {
 //!             Ok(()) => texts = texts.saturating_add(1),
 //!             Err(e) if *e.error() == ErrorType::OutOfMemory => return Err(e),
 //!             Err(_) => {}
@@ -49,18 +48,10 @@
 
 mod check;
 mod escapes;
-mod index;
-pub mod lists;
 mod location;
 mod nested;
-pub mod scalars;
 
-pub use index::Index;
+pub use check::Checker;
 pub use location::{Location, Reason, locate};
 pub use simd_json_parts::error::{Error, ErrorType, Result};
-
-/// How many containers may be open at a time, unless another limit is given.
-pub const DEFAULT_MAX_DEPTH: usize = 1024;
-
-/// For how many open containers there is a stack that is not allocated.
-pub const FEW_OPEN: usize = 64;
+pub use simd_json_stages::{DEFAULT_MAX_DEPTH, Index};

@@ -1,6 +1,6 @@
 //! Where an input is wrong and why, for people.
 ghost use Rattle.std.specs.Prelude.{◌≡◌, ◌≤◌, length, IfOk, OnErr};
-ghost use Rattle.simd_json_check.specs.Capacities.{IsNoShorter};
+ghost use Rattle.simd_json_check.specs.Checkers.{KeepsChecker};
 ghost use Rattle.simd_json_check.specs.Reasons.{found_in, location_of, shown_byte};
 ghost use Rattle.simd_json_parts.specs.Limits.{max_length};
 
@@ -10,7 +10,7 @@ mod place;
 mod reason;
 mod scan;
 
-use crate::index::Index;
+use crate::check::Checker;
 use context::reason_for;
 use place::{byte_of, column, line};
 pub use reason::Reason;
@@ -45,12 +45,12 @@ impl Location {
     /// - `InputTooLarge`: the first byte too many
     ///
     /// ```
-    /// use simd_json_check::{DEFAULT_MAX_DEPTH, Index, Location};
+    /// use simd_json_check::{Checker, DEFAULT_MAX_DEPTH, Location};
     ///
     /// fn line_of_error(rt: &impl AllocGlobal) -> Option<usize> {
     ///     let input = b"[1,\n2,]";
-    ///     let mut index = Index::new(rt.alloc(), 0).ok()?;
-    ///     let error = index.check(input, DEFAULT_MAX_DEPTH).err()?;
+    ///     let mut checker = Checker::empty(rt.alloc());
+    ///     let error = checker.check(input, DEFAULT_MAX_DEPTH).err()?;
     ///     Some(Location::new(input, error).line())
     /// }
     /// ```
@@ -115,8 +115,8 @@ fn shown_byte(input: &[u8], error: &Error, reason: Reason) -> usize
     }
 }
 
-impl<A: Allocator> Index<A> {
-    /// Checks whether the bytes are one document, as [`check`](Index::check) does, and finds the
+impl<A: Allocator> Checker<A> {
+    /// Checks whether the bytes are one document, as [`check`](Checker::check) does, and finds the
     /// place of the error if not. Returns `None` if they are, otherwise the location of the error.
     ///
     /// Returns `AllocError` if an allocation fails. So `OutOfMemory` is never the error of a
@@ -125,7 +125,7 @@ impl<A: Allocator> Index<A> {
     pub fn locate(&mut self, input: &[u8], max_depth: usize) -> Result<Option<Location>, AllocError>
         ensures found { IfOk result (λ found. found ≡ found_in input.now max_depth) }
         ensures size { OnErr result (length input.now ≤ max_length) }
-        ensures kept { IsNoShorter self.old self.new }
+        ensures kept { KeepsChecker self.old self.new }
     {
         match self.check(input, max_depth).err() {
             None => Ok(None),
@@ -135,7 +135,8 @@ impl<A: Allocator> Index<A> {
     }
 }
 
-/// Checks one input, and finds the place of its error, as [`Index::locate`] does over a new index.
+/// Checks one input, and finds the place of its error, as [`Checker::locate`] does, over memory of
+/// its own.
 ///
 /// `input` holds the bytes as they were before a parse. A caller who has parsed the bytes already
 /// has the error, and needs only [`Location::new`].
@@ -157,5 +158,5 @@ pub fn locate<A: Allocator + Copy>(
     ensures found { IfOk result (λ found. found ≡ found_in input.now max_depth) }
     ensures size { OnErr result (length input.now ≤ max_length) }
 {
-    Index::empty(alloc).locate(input, max_depth)
+    Checker::empty(alloc).locate(input, max_depth)
 }

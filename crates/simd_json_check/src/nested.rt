@@ -1,11 +1,16 @@
 //! Whether structural indexes are those of a value that does not exceed a depth limit. Nothing is
 //! kept of it, and one error is as good as another.
-ghost use Rattle.std.specs.Prelude.{◌≡◌, ◌<◌, ◌≤◌, length, drop, slice_index, IfSome};
+ghost use Rattle.std.specs.Prelude.{◌≡◌, ◌<◌, ◌≤◌, ℕ, List, length, drop, slice_index};
+ghost use Rattle.std.specs.Prelude.{IfSome, IsTrue, Some};
+ghost use Rattle.simd_json_check.specs.Scalars.{scalar_of};
 ghost use Rattle.simd_json_check.specs.Scanned.{IsWholeScan};
 ghost use Rattle.simd_json_check.specs.Whole.{AreStringsRead, IsElements, IsMembers, IsValue};
 ghost use Rattle.simd_json_parts.specs.Bytes.{byte_at};
+ghost use Rattle.simd_json_parts.specs.Document.{Document};
+ghost use Rattle.simd_json_parts.specs.Tokens.{form_at};
 
-use crate::scalars::is_scalar;
+use simd_json_scalars::front::{begins_number, numeral, spells};
+use simd_json_scalars::numberparse::{Numeral, parse_long};
 
 // The first byte of the token with this structural index.
 #[inline(always)]
@@ -31,8 +36,8 @@ fn from_token<'i>(input: &'i [u8], indexes: &[u32], at: usize) -> &'i [u8]
     &input[at..]
 }
 
-// The number of the structural index after the value here, in which at most `levels` containers
-// are open at a time; none if there is no such value.
+// Returns the number of the structural index after the value here, in which at most `levels`
+// containers are open at a time; `None` if there is none.
 #[inline(always)]
 #[cycle(nested)]
 pub(crate) fn value_end(input: &[u8], indexes: &[u32], at: usize, levels: usize) -> Option<usize>
@@ -65,7 +70,7 @@ pub(crate) fn value_end(input: &[u8], indexes: &[u32], at: usize, levels: usize)
     }
 }
 
-// The same after the elements from here on, and the bracket that closes them.
+// Returns the number after the elements from here on and the bracket that closes them.
 #[inline(never)]
 #[cycle(nested)]
 fn array_end(input: &[u8], indexes: &[u32], start: usize, levels: usize) -> Option<usize>
@@ -100,7 +105,7 @@ fn array_end(input: &[u8], indexes: &[u32], start: usize, levels: usize) -> Opti
     None
 }
 
-// The same after the members.
+// Returns the number after the members from here on and the brace that closes them.
 #[inline(never)]
 #[cycle(nested)]
 fn object_end(input: &[u8], indexes: &[u32], start: usize, levels: usize) -> Option<usize>
@@ -136,4 +141,26 @@ fn object_end(input: &[u8], indexes: &[u32], start: usize, levels: usize) -> Opt
         }
     }
     None
+}
+
+// Whether a number, `true`, `false` or `null` is at the front.
+#[inline(always)]
+fn is_scalar(bytes: &[u8]) -> bool
+    requires { 0 < length bytes.now }
+    ensures { IsTrue result → (b : List ℕ) (i : ℕ) → drop i b ≡ bytes.now
+        → (d : Document) × (scalar_of (form_at b i) ≡ Some d) }
+{
+    let first = bytes[0];
+    if begins_number(first) {
+        return match numeral(bytes) {
+            Numeral::Integer(_) => true,
+            Numeral::Decimal(_) => true,
+            Numeral::Long(len) => parse_long(bytes, len).is_ok(),
+            Numeral::Invalid(_) => false,
+        };
+    }
+    if first == b'n' {
+        return spells(bytes, b"null");
+    }
+    spells(bytes, b"true") || spells(bytes, b"false")
 }

@@ -24,7 +24,7 @@ use Rattle.simd_json_ondemand.proofs.Agreement.{array-is, begins-at}
 use Rattle.simd_json_ondemand.proofs.Standing.{opens_array_byte}
 use Rattle.simd_json_ondemand.proofs.WalkViews.{elements-found}
 use Rattle.simd_json_ondemand.proofs.Walks.{few-items, items-whole}
-use Rattle.simd_json_check.proofs.Whole.{few-positions, right-input}
+use Rattle.simd_json_stages.proofs.Whole.{few-positions, right-input}
 
 -- ---- elements
 

@@ -5,8 +5,8 @@
 use crate::numbers::{fraction, number_len};
 use crate::strings::closing;
 use crate::value::Value;
-use simd_json_check::scalars::{begins_number, numeral, spells};
 use simd_json_parts::node::{StaticNode, ValueType};
+use simd_json_scalars::front::{begins_number, numeral, spells};
 use simd_json_scalars::numberparse::{Numeral, integer_node, parse_long};
 
 impl<'d> Value<'d> {

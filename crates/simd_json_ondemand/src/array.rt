@@ -101,8 +101,8 @@ impl<'d> Array<'d> {
     /// is, and that the cursor stays in its array, as [`end`](Array::end) and
     /// [`pass`](Array::pass) want it.
     ///
-    /// Over bytes that [`Index::check`](crate::Index::check) did not check the values may end
-    /// early without a word; [`try_next`](Array::try_next) tells that.
+    /// Over bytes that [`Document::check`](crate::Document::check) did not check the values may end
+    /// early without a word; [`try_next`](Array::try_next) returns an error then.
     #[inline(always)]
     pub fn next_value(&mut self) -> Option<Value<'d>>
         ensures steps { YieldsFirstBy doc elements_to_come self.old result self.new }

@@ -78,7 +78,7 @@ impl<'d> Object<'d> {
         }
     }
 
-    // The same among the members left alone.
+    // Searches the members that are left, and no other.
     #[inline(always)]
     pub(crate) fn find_left(&mut self, wanted: Wanted<'_>) -> Result<Option<Value<'d>>, Stop<'d>>
         ensures found { MatchResult result
@@ -111,9 +111,8 @@ impl<'d> Object<'d> {
         }
     }
 
-    // The same among all members, where none of those left has the key, and they end: a cursor
-    // behind the member, and its value. The walk from the beginning ends where it comes to this
-    // cursor.
+    // Searches the members before this cursor, where those after it end without the key: returns a
+    // cursor behind the member, and its value.
     #[cold]
     #[inline(never)]
     fn find_before(self, wanted: Wanted<'_>) -> Result<Option<(Object<'d>, Value<'d>)>, Stop<'d>>

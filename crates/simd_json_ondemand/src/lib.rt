@@ -1,9 +1,9 @@
 //! JSON values (RFC 8259) read on demand: along the structural indexes of an input, without a tape.
 //!
-//! [`Index::find`] finds the structural indexes, as the first stage of a parse does, and returns a
-//! [`Document`]. Its values are read where they are asked for, from the input, which is shared and
-//! never written. What is not asked for is not read, and a value takes no memory but its own five
-//! words.
+//! [`Document::scan`] finds the structural indexes, as the first stage of a parse does. The values
+//! of the [`Document`] that it returns are read where they are asked for, from the input, which is
+//! shared and never written. What is not asked for is not read, and a value takes no memory but its
+//! own five words.
 //!
 //! [`Value::get`] returns the value of the first member with a key. [`Object::find`] begins where
 //! the search before it ended, and goes once round: keys that are asked for in the order of the
@@ -15,7 +15,7 @@
 //!
 //! # What is checked
 //!
-//! Of the whole input `find` checks size, encoding, quotes and control bytes, with the errors of a
+//! Of the whole input `scan` checks size, encoding, quotes and control bytes, with the errors of a
 //! parse. All else is checked only where it is visited, as in simdjson's On-Demand:
 //!
 //! - If the input is a document that a parse accepts, each call returns what the same call of
@@ -29,7 +29,7 @@
 //! [`next_value`](Array::next_value) ends early without a word, and [`Value::get`] or
 //! [`Value::pointer`] returns `None`, as for a missing value. The `try_` forms tell that: their
 //! error, [`Unexpected`], names the place where the walk stopped, and what was expected there. Or
-//! call [`Index::check`] in place of `find`: it checks the whole input, as a parse does, and
+//! call [`Document::check`] in place of `scan`: it checks the whole input, as a parse does, and
 //! returns the error of the parse. It keeps no node, and copies the input only if it finds a fault
 //! or more than 64 nested containers.
 //!
@@ -55,7 +55,6 @@ mod accessors;
 mod array;
 mod end;
 mod find;
-mod index;
 mod key;
 pub mod laws;
 mod numbers;
@@ -73,11 +72,12 @@ mod walk;
 
 pub use array::Array;
 pub use end::End;
-pub use index::Index;
 pub use object::Object;
+pub use simd_json_check::Checker;
 pub use simd_json_parts::error::{Error, ErrorType, Result};
 pub use simd_json_parts::node::ValueType;
 pub use simd_json_parts::pointer::Pointer;
+pub use simd_json_stages::Index;
 pub use stream::{InputLines, lines};
 pub use unexpected::{Expected, Found, Unexpected};
 pub use value::{Document, Value};

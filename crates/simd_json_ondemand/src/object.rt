@@ -105,8 +105,8 @@ impl<'d> Object<'d> {
     /// says more: where they are, and that the cursor stays in its object, as [`end`](Object::end)
     /// and [`pass`](Object::pass) want it.
     ///
-    /// Over bytes that [`Index::check`](crate::Index::check) did not check the members may end
-    /// early without a word; [`try_next`](Object::try_next) tells that.
+    /// Over bytes that [`Document::check`](crate::Document::check) did not check the members may
+    /// end early without a word; [`try_next`](Object::try_next) returns an error then.
     #[inline(always)]
     pub fn next_member(&mut self) -> Option<(Value<'d>, Value<'d>)>
         ensures steps { YieldsFirstBy pair_doc members_left self.old result self.new }

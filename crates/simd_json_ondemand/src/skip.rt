@@ -78,7 +78,7 @@ pub(crate) fn close(input: &[u8], indexes: &[u32], at: usize) -> usize
     close_slowly(input, indexes, end, depth)
 }
 
-// The same, for a cursor that is mostly at the bracket already.
+// Does this for a cursor that is mostly at the bracket already.
 #[inline(always)]
 pub(crate) fn close_here(input: &[u8], indexes: &[u32], at: usize) -> usize
     requires within { AreWithin input.now indexes.now }

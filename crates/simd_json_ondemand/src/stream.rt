@@ -18,14 +18,15 @@ pub struct InputLines<'i> {
 /// Blank lines, which are empty or whitespace alone (RFC 8259, section 2), are skipped.
 ///
 /// ```
-/// use simd_json_ondemand::{Index, Result, lines};
+/// use simd_json_ondemand::{Document, Index, Result, lines};
 ///
 /// // The sum of a field of log lines.
 /// fn sum(rt: &impl AllocGlobal, log: &[u8], key: &str) -> Result<u64> {
 ///     let mut index = Index::new(rt.alloc(), 1024)?;
 ///     let mut sum = 0u64;
 ///     for line in lines(log) {
-///         if let Some(value) = index.find(line)?.as_value().get(key) {
+///         let root = Document::scan(&mut index, line)?.as_value();
+///         if let Some(value) = root.get(key) {
 ///             sum = sum.saturating_add(value.as_u64().unwrap_or(0));
 ///         }
 ///     }

@@ -2,7 +2,7 @@
 ghost use Rattle.std.specs.Prelude.{◌≡◌, ◌≤◌, ◌<◌, ◌+◌, length, drop, OnOk, IfErr};
 ghost use Rattle.std.specs.Vec.{vec_capacity};
 ghost use Rattle.std.specs.List.{prefix_len};
-ghost use Rattle.simd_json_check.specs.Capacities.{IsOutOfMemory};
+ghost use Rattle.simd_json_stages.specs.Capacities.{IsOutOfMemory};
 ghost use Rattle.simd_json_parts.specs.Bytes.{byte_at, quote};
 ghost use Rattle.simd_json_parts.specs.StringAt.{closing_quote};
 ghost use Rattle.simd_json_scalars.specs.StringContent.{is_plain};
@@ -58,12 +58,12 @@ impl<'d> Value<'d> {
     /// its quotes, than the buffer's capacity, and the buffer cannot grow.
     ///
     /// ```
-    /// use simd_json_ondemand::{Index, Result};
+    /// use simd_json_ondemand::{Document, Index, Result};
     ///
     /// fn name_len(rt: &impl AllocGlobal, input: &[u8]) -> Result<Option<usize>> {
     ///     let mut index = Index::new(rt.alloc(), input.len())?;
     ///     let mut buffer = Vec::new(rt.alloc());
-    ///     let root = index.find(input)?.as_value();
+    ///     let root = Document::scan(&mut index, input)?.as_value();
     ///     match root.decode(&mut buffer)? {
     ///         Some(name) => Ok(Some(name.len())),
     ///         None => Ok(None),

@@ -2,6 +2,11 @@
 ghost use Rattle.std.specs.Prelude.{◌≡◌, ◌<◌, length};
 ghost use Rattle.simd_json_check.specs.Scanned.{IsWholeScan};
 
+use simd_json_check::Checker;
+use simd_json_parts::error::Result;
+use simd_json_stages::Index;
+use std::alloc::Allocator;
+
 /// An input whose structural indexes are known. Whether it is a document of the grammar is tested
 /// only where values are read.
 #[derive(Clone, Copy, Debug)]
@@ -21,20 +26,111 @@ pub struct Value<'d> {
 }
 
 impl<'d> Document<'d> {
+    ghost use Rattle.std.specs.Prelude.{◌≡◌, ◌⊎◌, ℕ, Ok, Err, Some, None, IfOk, OnOk, IfErr};
+    ghost use Rattle.simd_json_check.specs.Checkers.{IsUnchecked};
+    ghost use Rattle.simd_json_ondemand.specs.Docs.{places, root, text};
+    ghost use Rattle.simd_json_parts.specs.Answer.{answer};
+    ghost use Rattle.simd_json_parts.specs.Document as parts;
+    ghost use Rattle.simd_json_parts.specs.InputFaults.{input_fault};
+    ghost use Rattle.simd_json_parts.specs.Positions.{positions};
+    ghost use Rattle.simd_json_stages.specs.Capacities.{IsScanError};
+
+    /// Finds the structural indexes of an input, as [`Index::scan`] does, and returns its document,
+    /// which borrows both. The input is neither copied nor written.
+    ///
+    /// The errors are those of [`Index::scan`]: one of the input as a whole, or `OutOfMemory` if an
+    /// allocation fails.
+    ///
+    /// Whether each token is where the grammar expects one is not tested here, but where values are
+    /// read; [`check`](Document::check) tests it. If the input is a document that a parse accepts,
+    /// at any depth limit, the root is that document.
+    ///
+    /// ```
+    /// use simd_json_ondemand::{Document, Index, Result};
+    ///
+    /// fn sum(rt: &impl AllocGlobal, numbers: &[&[u8]]) -> Result<u64> {
+    ///     let mut index = Index::new(rt.alloc(), 64)?;
+    ///     let mut sum = 0u64;
+    ///     for number in numbers {
+    ///         let root = Document::scan(&mut index, number)?.as_value();
+    ///         sum = sum.saturating_add(root.as_u64().unwrap_or(0));
+    ///     }
+    ///     Ok(sum)
+    /// }
+    /// ```
+    pub fn scan<A: Allocator>(index: &'d mut Index<A>, input: &'d [u8]) -> Result<Document<'d>>
+        ensures input { IfOk result (λ document. text document ≡ input.now) }
+        ensures indexes { IfOk result (λ document. places document ≡ positions input.now) }
+        ensures whole { OnOk result (input_fault input.now ≡ None) }
+        ensures document { IfOk result (λ document. (d : parts.Document) (limit : ℕ)
+            → answer input.now limit ≡ Ok d → root document ≡ Some d) }
+        ensures fault { IfErr result (λ e. IsScanError input.now index.old e) }
+    {
+        index.scan(input)?;
+        Ok(Document::new(index, input))
+    }
+
+    /// Checks all of an input, as [`Checker::check`] does: that it is one document (RFC 8259) with
+    /// at most `max_depth` containers open at a time. So each call on the values of the document
+    /// returns what the same call of `simd_json`'s tape returns.
+    ///
+    /// Returns the error of [`Checker::check`], the first of a parse by `simd_json` within that
+    /// depth limit, with its kind, index and character; or `OutOfMemory` if an allocation fails.
+    /// The input stays unchanged.
+    ///
+    /// ```
+    /// use simd_json_ondemand::{Checker, Document, Result};
+    ///
+    /// // The value of a key in a document that is checked as a whole.
+    /// fn get(rt: &impl AllocGlobal, input: &[u8], key: &str) -> Result<Option<u64>> {
+    ///     let mut checker = Checker::empty(rt.alloc());
+    ///     let document = Document::check(&mut checker, input, 1024)?;
+    ///     Ok(document.as_value().get(key).and_then(|value| value.as_u64()))
+    /// }
+    /// ```
+    pub fn check<A: Allocator>(
+        checker: &'d mut Checker<A>,
+        input: &'d [u8],
+        max_depth: usize,
+    ) -> Result<Document<'d>>
+        ensures input { IfOk result (λ document. text document ≡ input.now) }
+        ensures indexes { IfOk result (λ document. places document ≡ positions input.now) }
+        ensures document { IfOk result (λ document. (d : parts.Document)
+            × (answer input.now max_depth ≡ Ok d) × (root document ≡ Some d)) }
+        ensures fault { IfErr result (λ e. (answer input.now max_depth ≡ Err e)
+            ⊎ IsUnchecked input.now max_depth checker.old e) }
+    {
+        checker.check(input, max_depth)?;
+        Ok(Document::new(&checker.index, input))
+    }
+
+    /// Returns the document of an input whose structural indexes an index lists: that of its last
+    /// [`Index::scan`], if it returned no error.
+    ///
+    /// [`scan`](Document::scan) lets the document borrow the index, and its contract says nothing
+    /// of the index afterwards. A caller that has reserved memory calls [`Index::scan`] and then
+    /// this, and can prove that no later call fails for it.
+    pub fn new<A: Allocator>(index: &'d Index<A>, input: &'d [u8]) -> Document<'d>
+        requires indexes { index.now.listed ≡ positions input.now }
+        requires whole { input_fault input.now ≡ None }
+        ensures input { text result ≡ input.now }
+        ensures indexes { places result ≡ positions input.now }
+        ensures document { (d : parts.Document) (limit : ℕ) → answer input.now limit ≡ Ok d
+            → root result ≡ Some d }
+    {
+        Document {
+            input,
+            indexes: index.structural_indexes(),
+        }
+    }
+}
+
+impl<'d> Document<'d> {
     ghost use Rattle.std.specs.Prelude.{◌≡◌, ◌<◌, length, slice_index};
     ghost use Rattle.simd_json_ondemand.specs.Docs.{doc, form, root, text, places};
     ghost use Rattle.simd_json_ondemand.specs.Sites.{site};
     ghost use Rattle.simd_json_parts.specs.Bytes.{byte_at};
     ghost use Rattle.simd_json_parts.specs.Tokens.{form_at};
-
-    // Of an input, and the structural indexes that were found in it.
-    pub(crate) fn new(input: &'d [u8], indexes: &'d [u32]) -> Document<'d>
-        requires { IsWholeScan input.now indexes.now }
-        ensures input { text result ≡ input.now }
-        ensures indexes { places result ≡ indexes.now }
-    {
-        Document { input, indexes }
-    }
 
     // The first byte of the token with this number.
     #[inline(always)]

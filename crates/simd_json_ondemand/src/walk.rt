@@ -62,7 +62,7 @@ pub(crate) fn found<T>(walked: Result<Option<T>, Stop<'_>>) -> Option<T>
     }
 }
 
-// The same with the error that names this place.
+// What a walk found, or the error that names the place where it stopped.
 #[inline(always)]
 pub(crate) fn told<T>(walked: Result<T, Stop<'_>>) -> Result<T, Unexpected>
     ensures { result ≡ told (λ x. x) walked.entry }
@@ -130,7 +130,7 @@ impl<'d> Document<'d> {
         Err(self.stop(at, expected))
     }
 
-    // The same behind a comma, or `None` at the closing bracket.
+    // The number of the token behind a comma, or `None` at the closing bracket.
     #[inline(always)]
     fn behind_item(
         self,

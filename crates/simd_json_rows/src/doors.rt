@@ -3,9 +3,10 @@ use crate::listing;
 use crate::printing::assert_read_again;
 use anyhow::{Result, bail};
 use simd_json::{
-    Buffers, DEFAULT_MAX_DEPTH, Deserializer, Error, INPUT_PADDING, Location, Tape, fill_tape,
-    fill_tape_padded, locate, refill_tape, to_tape, to_tape_with_buffers,
+    Buffers, DEFAULT_MAX_DEPTH, Deserializer, Error, INPUT_PADDING, Tape, fill_tape,
+    fill_tape_padded, refill_tape, to_tape, to_tape_with_buffers,
 };
+use simd_json_check::{Location, locate};
 use std::alloc::Global;
 
 // The result of one way, and after it those that differ.

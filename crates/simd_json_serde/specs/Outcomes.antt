@@ -3,7 +3,7 @@ use Rattle.std.specs.Prelude.{◌≡◌, ◌⊎◌, ℕ, List, Result, Ok, Err}
 use Rattle.simd_json_parts.specs.Document.{Document}
 use Rattle.simd_json_parts.specs.Grammar.{Denotes}
 use Rattle.simd_json_parts.specs.Limits.{WithinLimits}
-use Rattle.simd_json_check.specs.Capacities.{IsOutOfMemory}
+use Rattle.simd_json_stages.specs.Capacities.{IsOutOfMemory}
 use Rattle.simd_json.specs.Parsed.{IsRejected}
 use Rattle.simd_json_serde.specs.Messages.{path_of}
 use Rattle.simd_json_serde.specs.Paths.{way}

@@ -6,7 +6,7 @@ ghost use Rattle.std.specs.List.{All};
 ghost use Rattle.std.specs.Vec.{vec_capacity};
 ghost use Rattle.simd_json.specs.Capacities.{KeepsCapacities, capacity};
 ghost use Rattle.simd_json.specs.Parsed.{IsRejected};
-ghost use Rattle.simd_json_check.specs.Capacities.{IsOutOfMemory};
+ghost use Rattle.simd_json_stages.specs.Capacities.{IsOutOfMemory};
 ghost use Rattle.simd_json_parts.specs.Nodes.{item_of};
 ghost use Rattle.simd_json_serde.specs.Ahead.{literal, natural, text};
 ghost use Rattle.simd_json_serde.specs.KeptNodes.{IsPlacedIn, IsTextAt, LiesWithin, item_in};

@@ -4,7 +4,7 @@ ghost use Rattle.std.specs.Vec.{vec_capacity};
 ghost use Rattle.std.specs.Result.{result_ok};
 ghost use Rattle.serde.specs.Event.{octets};
 ghost use Rattle.serde.specs.Steps.{Gives};
-ghost use Rattle.simd_json_check.specs.Capacities.{default_max_depth};
+ghost use Rattle.simd_json_stages.specs.Capacities.{default_max_depth};
 ghost use Rattle.simd_json.specs.Capacities.{KeepsCapacities, capacity as buffer_capacity};
 ghost use Rattle.simd_json.specs.Viewed.{doc};
 ghost use Rattle.simd_json_parts.specs.Document.{Document};

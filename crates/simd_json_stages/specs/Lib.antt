@@ -1,6 +1,7 @@
 -- What the public contracts of the first stage rest on: the blocks that it lists, and what it returns where memory is short.
 pub mod EscapeBlocks
 pub mod Scans
+pub mod Capacities
 -- What the second stage's rests on.
 pub mod NodesEnough
 -- What serves the proofs of the first stage alone: only the crate's private clauses cite it.

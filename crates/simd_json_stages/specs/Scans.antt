@@ -15,8 +15,8 @@ abbrev pub IsShort : List ℕ → List ℕ → List ℕ → Type 0
 IsShort b positions blocks = (length positions < length b) ⊎ (length blocks < blocks_in (length b))
 
 -- An allocation failed. None is asked for before size and encoding are known to be right, nor where neither list is short.
-abbrev pub LacksMemory : List ℕ → Error → List ℕ → List ℕ → Type 0
-LacksMemory b e positions blocks = (e ≡ whole_fault OutOfMemory) × (length b ≤ max_length) × IsUtf8 b × IsShort b positions blocks
+abbrev pub LacksListMemory : List ℕ → Error → List ℕ → List ℕ → Type 0
+LacksListMemory b e positions blocks = (e ≡ whole_fault OutOfMemory) × (length b ≤ max_length) × IsUtf8 b × IsShort b positions blocks
 
 -- the input is not UTF-8
 abbrev pub IsBadEncoding : List ℕ → Error → Type 0

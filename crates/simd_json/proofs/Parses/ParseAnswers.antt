@@ -12,7 +12,7 @@ use Rattle.simd_json_parts.specs.Limits.{max_length}
 use Rattle.simd_json_parts.specs.Nodes.{Item}
 use Rattle.simd_json_parts.specs.declared.error.Error.{Error}
 use Rattle.simd_json_parts.specs.declared.error.ErrorType.TheVariants.{OutOfMemory}
-use Rattle.simd_json_check.specs.Capacities.{IsOutOfMemory, LacksMemory, positions_after}
+use Rattle.simd_json_stages.specs.Capacities.{IsOutOfMemory, LacksMemory, positions_after}
 use Rattle.simd_json.specs.Parsed.{HasMemory}
 use Rattle.simd_json.specs.Parsed.{IsParse, IsPaddedParse, IsRejected, answered_nodes}
 use Rattle.simd_json.proofs.Parses.ParseEnds.{input-character, input-memory, token-memory}

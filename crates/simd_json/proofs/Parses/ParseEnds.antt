@@ -2,7 +2,7 @@
 use Rattle.std.proofs.Common.{◌≡◌, ◌≢◌, ◌∙◌, ap, sym, subst, ◌<◌, ◌≤◌, ℕ, List, [], length, Bool, true, false, Some, None}
 use Rattle.std.proofs.Common.{Option, Ok, Err, refl, arith, cond, Result, min, ◌⊎◌, inl, inr, is_some, nat_lt}
 use Rattle.std.specs.Result.{IsErrAnd, IfErr, OnOk, OnErr, result_err}
-use Rattle.simd_json_check.proofs.Whole.{few-positions}
+use Rattle.simd_json_stages.proofs.Whole.{few-positions}
 use Rattle.simd_json_parts.proofs.Documents.Fronts.{positive}
 use Rattle.simd_json_theorems.proofs.Faults.Kinds.{input-fault, token-fault}
 use Rattle.std.proofs.lemmas.Bool.{cond_both, ltb-false, ltb-true, lt-ltb, false≢true}
@@ -14,10 +14,10 @@ use Rattle.simd_json_parts.specs.Listing.{listing}
 use Rattle.simd_json_parts.specs.Nodes.{Item}
 use Rattle.simd_json_parts.specs.Positions.{positions}
 use Rattle.simd_json_parts.specs.declared.error.Error.{Error}
-use Rattle.simd_json_check.specs.Capacities.{IsOutOfMemory, LacksMemory}
+use Rattle.simd_json_stages.specs.Capacities.{IsOutOfMemory, LacksMemory}
 use Rattle.simd_json.specs.Parsed.{IsParse, IsParsed, IsRejected, nodes_written}
 use Rattle.simd_json.specs.Capacities.{KeepsCapacities, Capacities, capacity}
-use Rattle.simd_json_check.specs.Capacities as lists
+use Rattle.simd_json_stages.specs.Capacities as lists
 use Rattle.simd_json.specs.Reserved.{bytes_listed}
 use Rattle.simd_json_stages.specs.Building.{IsWritten}
 use Rattle.simd_json_stages.specs.NodesEnough.{nodes_enough}

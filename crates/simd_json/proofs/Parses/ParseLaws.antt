@@ -3,7 +3,7 @@ use Rattle.std.proofs.Common.{◌≡◌, ◌∙◌, ap, sym, ℕ, List, true, So
 use Rattle.std.proofs.Common.{false, refl, is_some, Option, Result, subst, ◌⊎◌}
 use Rattle.std.specs.Result.{is_err}
 use Rattle.std.proofs.lemmas.Bool.{false≢true}
-use Rattle.simd_json_check.proofs.Whole.{descent-answered, fault-answered}
+use Rattle.simd_json_stages.proofs.Whole.{descent-answered, fault-answered}
 use Rattle.simd_json_theorems.proofs.Complete.Answer.{answer-Denotes}
 use Rattle.simd_json_theorems.proofs.Faults.Kinds.{input-fault, token-fault}
 use Rattle.simd_json_theorems.proofs.Faults.Root.{fault-reported}
@@ -84,11 +84,6 @@ rejected b limit e is = by_whole (input_fault b) refl where
 pub rejected-or : {A : Type 0} (b : List ℕ) (limit : ℕ) (e : Error) → (answer b limit ≡ Err e) ⊎ A → IsRejected b limit e ⊎ A
 rejected-or b limit e (inl is) = inl (rejected b limit e is)
 rejected-or b limit e (inr other) = inr other
-
--- where it is not said for how much there was capacity
-pub memory-lacking : {A B C : Type 0} → A ⊎ (B × C) → A ⊎ B
-memory-lacking (inl is) = inl is
-memory-lacking (inr lacks) = inr lacks.0
 
 -- ---- what is listed
 

@@ -7,8 +7,8 @@ use Rattle.simd_json_parts.specs.declared.error.Error.{Error}
 use Rattle.simd_json.specs.Capacities.{Capacities, KeepsCapacities, capacity, with_room}
 use Rattle.simd_json.specs.Parsed.{HasMemory}
 use Rattle.simd_json.specs.Parsed.{IsParse}
-use Rattle.simd_json_check.specs.Capacities.{capped}
-use Rattle.simd_json_check.specs.Capacities as lists
+use Rattle.simd_json_stages.specs.Capacities.{capped}
+use Rattle.simd_json_stages.specs.Capacities as lists
 use Rattle.simd_json_stages.specs.EscapeBlocks.{blocks_in}
 use Rattle.simd_json.specs.Reserved.{IsReserved, bytes_listed, parse_capacity}
 use Rattle.simd_json.specs.Tapes.{Listed}
@@ -33,12 +33,12 @@ reserved len buffers tape enough later next same kept more b fault nodes listed 
 
 kept-both : (a b c : Capacities) → KeepsCapacities a b → KeepsCapacities b c → KeepsCapacities a c
 kept-both a b c k l = (
-  (omega (arith, k.0.0, l.0.0), omega (arith, k.0.1, l.0.1), omega (arith, k.0.2, l.0.2), omega (arith, k.0.3, l.0.3)),
+  (omega (arith, k.0.0, l.0.0), omega (arith, k.0.1, l.0.1)),
   omega (arith, k.1, l.1),
 )
 
 pub kept-same : (a : Capacities) → KeepsCapacities a a
-kept-same a = ((omega arith, omega arith, omega arith, omega arith), omega arith)
+kept-same a = ((omega arith, omega arith), omega arith)
 
 -- it holds of what keeps capacities
 pub reserved-still : (len : ℕ) (old new : Capacities) (tape next : Listed) → new.limit ≡ old.limit → KeepsCapacities old new

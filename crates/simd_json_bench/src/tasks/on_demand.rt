@@ -1,7 +1,7 @@
 //! The tasks on demand: keys are looked for in the order of the input.
 use super::{ERROR, WANTED, distinct, level_mark, mark};
 use memchr::memchr_iter;
-use simd_json_ondemand::{Array, Document, Index, Object, Result, Value};
+use simd_json_ondemand::{Array, Checker, Document, Object, Result, Value};
 use std::alloc::Global;
 use std::num::f64_to_bits_with_nan;
 
@@ -14,11 +14,12 @@ pub(crate) fn of_texts(
     task: u32,
     checks: bool,
 ) -> Option<u64> {
-    let mut index = Index::new(alloc, len).ok()?;
+    let mut checker = Checker::empty(alloc);
+    checker.index.reserve(len).ok()?;
     let mut buffer = Vec::new(alloc);
     let mut sum = 0u64;
     for slot in texts.chunks_exact(stride.max(1)) {
-        let root = read(&mut index, slot.get(..len)?, checks).ok()?.as_value();
+        let root = read(&mut checker, slot.get(..len)?, checks).ok()?.as_value();
         sum = sum.wrapping_add(answer(alloc, root, task, &mut buffer)?);
     }
     Some(sum)
@@ -26,12 +27,12 @@ pub(crate) fn of_texts(
 
 // Of each line its level, and of those at the level `error` the status.
 pub(crate) fn of_lines(alloc: Global, texts: &[u8], checks: bool) -> Option<u64> {
-    let mut index = Index::new(alloc, 0).ok()?;
+    let mut checker = Checker::empty(alloc);
     let mut buffer = Vec::new(alloc);
     let mut sum = 0u64;
     let mut from = 0usize;
     for end in memchr_iter(b'\n', texts) {
-        let root = read(&mut index, texts.get(from..end)?, checks)
+        let root = read(&mut checker, texts.get(from..end)?, checks)
             .ok()?
             .as_value();
         sum = sum.wrapping_add(line(root, &mut buffer)?);
@@ -41,11 +42,11 @@ pub(crate) fn of_lines(alloc: Global, texts: &[u8], checks: bool) -> Option<u64>
 }
 
 #[inline(always)]
-fn read<'d>(index: &'d mut Index, text: &'d [u8], checks: bool) -> Result<Document<'d>> {
+fn read<'d>(checker: &'d mut Checker, text: &'d [u8], checks: bool) -> Result<Document<'d>> {
     if checks {
-        index.check(text, 1024)
+        Document::check(checker, text, 1024)
     } else {
-        index.find(text)
+        Document::scan(&mut checker.index, text)
     }
 }
 

@@ -1,17 +1,17 @@
-//! What an index lists after one input and the next, and the examples of `simd_json_check`.
+//! What a checker lists after one input and the next, and the examples of `simd_json_check`.
 use linked_list_allocator::LocalHeap;
 use simd_json_check::{
-    DEFAULT_MAX_DEPTH, Error, ErrorType, Index, Location, Reason, Result, locate,
+    Checker, DEFAULT_MAX_DEPTH, Error, ErrorType, Location, Reason, Result, locate,
 };
 use std::alloc::AllocError;
 
 const MEMORY: &str = "the test has memory";
 
 fn count(rt: &impl AllocGlobal, lines: &[&[u8]]) -> Result<usize> {
-    let mut index = Index::new(rt.alloc(), 1024)?;
+    let mut checker = Checker::empty(rt.alloc());
     let mut texts = 0usize;
     for line in lines {
-        match index.check(line, DEFAULT_MAX_DEPTH) {
+        match checker.check(line, DEFAULT_MAX_DEPTH) {
             Ok(()) => texts = texts.saturating_add(1),
             Err(e) if *e.error() == ErrorType::OutOfMemory => return Err(e),
             Err(_) => {}
@@ -22,8 +22,8 @@ fn count(rt: &impl AllocGlobal, lines: &[&[u8]]) -> Result<usize> {
 
 fn line_of_error(rt: &impl AllocGlobal) -> Option<usize> {
     let input = b"[1,\n2,]";
-    let mut index = Index::new(rt.alloc(), 0).ok()?;
-    let error = index.check(input, DEFAULT_MAX_DEPTH).err()?;
+    let mut checker = Checker::empty(rt.alloc());
+    let error = checker.check(input, DEFAULT_MAX_DEPTH).err()?;
     Some(Location::new(input, error).line())
 }
 
@@ -41,33 +41,43 @@ fn examples_run(rt: HostRuntime) {
 }
 
 #[test]
-fn an_index_lists_the_last_input(rt: HostRuntime) {
-    let mut index = Index::new(rt.alloc(), 0).expect(&rt, MEMORY);
-    assert_eq!(rt; index.structural_indexes(), [0u32; 0].as_slice());
-    assert_eq!(rt; index.check(b"[1, \"]\"]", 1), Ok(()));
-    assert_eq!(rt; index.structural_indexes(), [0u32, 1, 2, 4, 7].as_slice());
+fn a_checker_lists_the_last_input(rt: HostRuntime) {
+    let mut checker = Checker::empty(rt.alloc());
+    assert_eq!(rt; checker.index.structural_indexes(), [0u32; 0].as_slice());
+    assert_eq!(rt; checker.check(b"[1, \"]\"]", 1), Ok(()));
+    assert_eq!(rt;
+        checker.index.structural_indexes(),
+        [0u32, 1, 2, 4, 7].as_slice()
+    );
     // An error of a token comes after they are found, one of the whole input before.
     let deep = Error::new(1, Some('['), ErrorType::DepthLimitExceeded);
-    assert_eq!(rt; index.check(b"[[]]", 1), Err(deep));
-    assert_eq!(rt; index.structural_indexes(), [0u32, 1, 2, 3].as_slice());
-    assert_eq!(rt; index.find(b"\""), Err(Error::generic(ErrorType::Syntax)));
-    assert_eq!(rt; index.structural_indexes(), [0u32; 0].as_slice());
-    assert_eq!(rt; index.find(b" ]"), Ok(()));
-    assert_eq!(rt; index.structural_indexes(), [1u32].as_slice());
+    assert_eq!(rt; checker.check(b"[[]]", 1), Err(deep));
+    assert_eq!(rt;
+        checker.index.structural_indexes(),
+        [0u32, 1, 2, 3].as_slice()
+    );
+    assert_eq!(rt;
+        checker.index.scan(b"\""),
+        Err(Error::generic(ErrorType::Syntax))
+    );
+    assert_eq!(rt; checker.index.structural_indexes(), [0u32; 0].as_slice());
+    assert_eq!(rt; checker.index.scan(b" ]"), Ok(()));
+    assert_eq!(rt; checker.index.structural_indexes(), [1u32].as_slice());
 }
 
 // The copy of a rejected input finds no memory: nothing is listed, as after an error of the whole.
 #[test]
 fn nothing_is_listed_without_memory(rt: HostRuntime) {
     let heap = LocalHeap::new(rt.alloc(), 1 << 12).expect(&rt, MEMORY);
-    let mut index = Index::new(&heap, 1000).expect(&rt, MEMORY);
+    let mut checker = Checker::empty(&heap);
+    checker.index.reserve(1000).expect(&rt, MEMORY);
     let mut input = [b' '; 1000];
     input[999] = b']';
     let lacking = Error::generic(ErrorType::OutOfMemory);
-    assert_eq!(rt; index.check(&input, 1), Err(lacking));
-    assert_eq!(rt; index.structural_indexes(), [0u32; 0].as_slice());
-    assert_eq!(rt; index.find(&input), Ok(()));
-    assert_eq!(rt; index.structural_indexes(), [999u32].as_slice());
+    assert_eq!(rt; checker.check(&input, 1), Err(lacking));
+    assert_eq!(rt; checker.index.structural_indexes(), [0u32; 0].as_slice());
+    assert_eq!(rt; checker.index.scan(&input), Ok(()));
+    assert_eq!(rt; checker.index.structural_indexes(), [999u32].as_slice());
 }
 
 #[test]

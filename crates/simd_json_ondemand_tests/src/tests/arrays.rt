@@ -1,6 +1,6 @@
 // The elements of arrays.
 use super::MEMORY;
-use simd_json_ondemand::{Array, Index, ValueType};
+use simd_json_ondemand::{Array, Document, Index, ValueType};
 
 // An array, and of each element the integer, if it is one.
 const ARRAYS: &[(&[u8], &[Option<u8>])] = &[
@@ -34,7 +34,9 @@ fn count(array: Array<'_>) -> usize {
 fn elements_come_in_order(rt: HostRuntime) {
     let mut index = Index::new(rt.alloc(), 100).expect(&rt, MEMORY);
     for (input, wanted) in ARRAYS {
-        let root = index.find(input).expect(&rt, "it is a document").as_value();
+        let root = Document::scan(&mut index, input)
+            .expect(&rt, "it is a document")
+            .as_value();
         let array = root.as_array().expect(&rt, "it is an array");
         assert_eq!(rt; count(array), wanted.len(), "{input:?}");
         let mut i = 0_usize;
@@ -78,12 +80,16 @@ fn other_bytes_have_elements_up_to_a_stop(rt: HostRuntime) {
         (b"[,1]", 0),
     ];
     for (input, wanted) in cases {
-        let root = index.find(input).expect(&rt, "it is scanned").as_value();
+        let root = Document::scan(&mut index, input)
+            .expect(&rt, "it is scanned")
+            .as_value();
         let array = root.as_array().expect(&rt, "it begins an array");
         assert_eq!(rt; count(array), wanted, "{input:?}");
     }
     for input in [b"1".as_slice(), b"{}", b"\"[\"", b"[", b"]"] {
-        let root = index.find(input).expect(&rt, "it is scanned").as_value();
+        let root = Document::scan(&mut index, input)
+            .expect(&rt, "it is scanned")
+            .as_value();
         assert!(rt; root.as_array().is_none());
         assert!(rt; root.get_idx(0).is_none());
     }

@@ -3,7 +3,7 @@ use super::MEMORY;
 use super::tape::SCALARS;
 use linked_list_allocator::LocalHeap;
 use simd_json::{Buffers, to_tape_with_buffers};
-use simd_json_ondemand::{Error, ErrorType, Index, Result};
+use simd_json_ondemand::{Checker, Document, Error, ErrorType, Index, Result};
 use std::process::Abort;
 
 pub(super) const DOCUMENTS: &[&[u8]] = &[
@@ -23,12 +23,12 @@ fn parsed(rt: &(impl AllocGlobal + Abort), input: &[u8], max_depth: usize) -> Op
 // The error of a check is that of a parse, and the input stays as it is. Returns the error.
 pub(super) fn checked(
     rt: &(impl AllocGlobal + Abort),
-    index: &mut Index,
+    checker: &mut Checker,
     input: &[u8],
     max_depth: usize,
 ) -> Option<Error> {
     let before = Vec::from_slice(rt.alloc(), input).expect(rt, MEMORY);
-    let error = index.check(input, max_depth).err();
+    let error = checker.check(input, max_depth).err();
     assert_eq!(rt; input, before.as_slice());
     assert_eq!(rt; &error, &parsed(rt, input, max_depth), "{input:?}");
     error
@@ -36,13 +36,16 @@ pub(super) fn checked(
 
 #[test]
 fn documents_are_accepted(rt: HostRuntime) {
-    let mut index = Index::new(rt.alloc(), 0).expect(&rt, MEMORY);
+    let mut checker = Checker::empty(rt.alloc());
     let mut other = Index::new(rt.alloc(), 0).expect(&rt, MEMORY);
     for documents in [SCALARS, DOCUMENTS] {
         for input in documents {
-            assert_eq!(rt; checked(&rt, &mut index, input, 1024), None, "{input:?}");
-            let document = index.check(input, 1024).expect(&rt, "it is a document");
-            let wanted = other.find(input).expect(&rt, "it is scanned");
+            assert_eq!(rt; checked(&rt, &mut checker, input, 1024), None, "{input:?}");
+            let document = Document::check(&mut checker, input, 1024).expect(
+                &rt,
+                "it is a document",
+            );
+            let wanted = Document::scan(&mut other, input).expect(&rt, "it is scanned");
             let (value, wanted) = (document.as_value(), wanted.as_value());
             assert_eq!(rt; value.value_type(), wanted.value_type(), "{input:?}");
             assert_eq!(rt; value.raw(), wanted.raw(), "{input:?}");
@@ -52,7 +55,7 @@ fn documents_are_accepted(rt: HostRuntime) {
 
 #[test]
 fn errors_of_the_whole_input_are_those_of_a_parse(rt: HostRuntime) {
-    let mut index = Index::new(rt.alloc(), 0).expect(&rt, MEMORY);
+    let mut checker = Checker::empty(rt.alloc());
     for (input, kind) in [
         (b"".as_slice(), ErrorType::Eof),
         (b" \t\r\n", ErrorType::Eof),
@@ -61,14 +64,14 @@ fn errors_of_the_whole_input_are_those_of_a_parse(rt: HostRuntime) {
         (b"[\"\xff\"]", ErrorType::InvalidUtf8),
         (b"[\xed\xa0\x80]", ErrorType::InvalidUtf8),
     ] {
-        let error = checked(&rt, &mut index, input, 1024).expect(&rt, "it is rejected");
+        let error = checked(&rt, &mut checker, input, 1024).expect(&rt, "it is rejected");
         assert_eq!(rt; error.error(), &kind, "{input:?}");
     }
 }
 
 #[test]
 fn errors_of_structure_are_those_of_a_parse(rt: HostRuntime) {
-    let mut index = Index::new(rt.alloc(), 0).expect(&rt, MEMORY);
+    let mut checker = Checker::empty(rt.alloc());
     for (input, kind) in [
         (b"[1,2".as_slice(), ErrorType::Syntax),
         (b"{\"a\":", ErrorType::Syntax),
@@ -85,14 +88,14 @@ fn errors_of_structure_are_those_of_a_parse(rt: HostRuntime) {
         (b"1 2", ErrorType::TrailingData),
         (b"\"\\n\" \"\"", ErrorType::TrailingData),
     ] {
-        let error = checked(&rt, &mut index, input, 1024).expect(&rt, "it is rejected");
+        let error = checked(&rt, &mut checker, input, 1024).expect(&rt, "it is rejected");
         assert_eq!(rt; error.error(), &kind, "{input:?}");
     }
 }
 
 #[test]
 fn errors_of_scalars_are_those_of_a_parse(rt: HostRuntime) {
-    let mut index = Index::new(rt.alloc(), 0).expect(&rt, MEMORY);
+    let mut checker = Checker::empty(rt.alloc());
     for (input, kind) in [
         (b"[tru]".as_slice(), ErrorType::ExpectedTrue),
         (b"truex", ErrorType::ExpectedTrue),
@@ -111,7 +114,7 @@ fn errors_of_scalars_are_those_of_a_parse(rt: HostRuntime) {
         (b"[\"\\u12\"]", ErrorType::InvalidUnicodeCodepoint),
         (b"[\"\\ud83d\"]", ErrorType::InvalidUnicodeCodepoint),
     ] {
-        let error = checked(&rt, &mut index, input, 1024).expect(&rt, "it is rejected");
+        let error = checked(&rt, &mut checker, input, 1024).expect(&rt, "it is rejected");
         assert_eq!(rt; error.error(), &kind, "{input:?}");
     }
 }
@@ -119,7 +122,7 @@ fn errors_of_scalars_are_those_of_a_parse(rt: HostRuntime) {
 // An escape after so many plain bytes, in the first block of 64 bytes or across its end.
 #[test]
 fn escapes_are_checked_in_each_block(rt: HostRuntime) {
-    let mut index = Index::new(rt.alloc(), 0).expect(&rt, MEMORY);
+    let mut checker = Checker::empty(rt.alloc());
     for (escape, wanted) in [
         (r"\n\/", None),
         (r"\u00e9\ud83d\ude00\\", None),
@@ -136,7 +139,7 @@ fn escapes_are_checked_in_each_block(rt: HostRuntime) {
                 .extend_from_slice(escape.as_bytes())
                 .expect(&rt, MEMORY);
             input.extend_from_slice(b"\"]").expect(&rt, MEMORY);
-            let error = checked(&rt, &mut index, &input, 1024);
+            let error = checked(&rt, &mut checker, &input, 1024);
             assert_eq!(rt;
                 error.as_ref().map(|e| e.error()),
                 wanted.as_ref(),
@@ -149,19 +152,19 @@ fn escapes_are_checked_in_each_block(rt: HostRuntime) {
 // Each beginning of a document, and each of its bytes replaced by each of several.
 #[test]
 fn changed_documents_are_checked_as_they_are_parsed(rt: HostRuntime) {
-    let mut index = Index::new(rt.alloc(), 0).expect(&rt, MEMORY);
+    let mut checker = Checker::empty(rt.alloc());
     let mut rejected = 0_usize;
     for document in DOCUMENTS {
         let mut changed = Vec::from_slice(rt.alloc(), document).expect(&rt, MEMORY);
         for i in 0..document.len() {
             for byte in *b"\"\\[]{}:, 1-.etfnu\x01\xff" {
                 changed[i] = byte;
-                if checked(&rt, &mut index, &changed, 4).is_some() {
+                if checked(&rt, &mut checker, &changed, 4).is_some() {
                     rejected = rejected.saturating_add(1);
                 }
             }
             changed[i] = document[i];
-            checked(&rt, &mut index, &document[..i], 4);
+            checked(&rt, &mut checker, &document[..i], 4);
         }
     }
     assert!(rt; rejected > 1000);
@@ -170,7 +173,7 @@ fn changed_documents_are_checked_as_they_are_parsed(rt: HostRuntime) {
 // Arrays in one another, with fewer and with more levels than have a stack that is not allocated.
 #[test]
 fn depth_is_limited(rt: HostRuntime) {
-    let mut index = Index::new(rt.alloc(), 0).expect(&rt, MEMORY);
+    let mut checker = Checker::empty(rt.alloc());
     for depth in [0, 1, 2, 63, 64, 65, 66, 200] {
         let mut input = Vec::new(rt.alloc());
         input.resize(depth, b'[').expect(&rt, MEMORY);
@@ -179,7 +182,7 @@ fn depth_is_limited(rt: HostRuntime) {
             .resize(depth.saturating_mul(2).saturating_add(1), b']')
             .expect(&rt, MEMORY);
         for limit in [0, 1, 2, 63, 64, 65, 66, 1024, usize::MAX] {
-            let error = checked(&rt, &mut index, &input, limit);
+            let error = checked(&rt, &mut checker, &input, limit);
             let deep = Error::new(limit, Some('['), ErrorType::DepthLimitExceeded);
             let wanted = if depth > limit { Some(deep) } else { None };
             assert_eq!(rt; error, wanted, "{depth:?} within {limit:?}");
@@ -195,30 +198,28 @@ fn checked_with(rt: &(impl AllocGlobal + Abort), depth: usize, left: usize) -> R
         .resize(depth.saturating_mul(2), b']')
         .expect(rt, MEMORY);
     let heap = LocalHeap::new(rt.alloc(), 1 << 16).expect(rt, MEMORY);
-    let mut index = Index::new(&heap, input.len()).expect(rt, MEMORY);
+    let mut checker = Checker::empty(&heap);
+    checker.index.reserve(input.len()).expect(rt, MEMORY);
     let full = super::memory::ballast(rt, &heap, left);
-    let answer = match index.check(&input, 1024) {
-        Ok(_document) => Ok(()),
-        Err(e) => Err(e),
-    };
+    let answer = checker.check(&input, 1024);
     if answer.is_ok() {
-        checks_again(rt, &mut index, &input, &heap);
+        checks_again(rt, &mut checker, &input, &heap);
     }
     drop(full);
-    assert_eq!(rt; index.check(&input, 1024).is_ok(), true);
-    checks_again(rt, &mut index, &input, &heap);
+    assert_eq!(rt; checker.check(&input, 1024).is_ok(), true);
+    checks_again(rt, &mut checker, &input, &heap);
     answer
 }
 
 // What a check has taken is kept: the same input is checked once more without an allocation.
 fn checks_again<'h>(
     rt: &(impl AllocGlobal + Abort),
-    index: &mut Index<&'h LocalHeap>,
+    checker: &mut Checker<&'h LocalHeap>,
     input: &[u8],
     heap: &LocalHeap,
 ) {
     let used = heap.used();
-    assert_eq!(rt; index.check(input, 1024).is_ok(), true);
+    assert_eq!(rt; checker.check(input, 1024).is_ok(), true);
     assert_eq!(rt; heap.used(), used);
 }
 

@@ -1,6 +1,6 @@
 // Numbers as the nearest `f64`.
 use super::MEMORY;
-use simd_json_ondemand::Index;
+use simd_json_ondemand::{Document, Index};
 use std::num::f64_to_bits_with_nan;
 
 // Literals, and the bits of the float nearest to each, as Python's `struct.pack('>d', ..)` has
@@ -46,7 +46,9 @@ const FLOATS: &[(&[u8], u64)] = &[
 fn numbers_are_read_as_the_nearest_float(rt: HostRuntime) {
     let mut index = Index::new(rt.alloc(), 64).expect(&rt, MEMORY);
     for (input, bits) in FLOATS {
-        let value = index.find(input).expect(&rt, "it is scanned").as_value();
+        let value = Document::scan(&mut index, input)
+            .expect(&rt, "it is scanned")
+            .as_value();
         let found = match value.as_f64() {
             Some(number) => Some(f64_to_bits_with_nan(number)),
             None => None,
@@ -69,7 +71,9 @@ fn numbers_are_read_as_the_nearest_float(rt: HostRuntime) {
         b"1.5x",
         b"1.5.",
     ] {
-        let value = index.find(input).expect(&rt, "it is scanned").as_value();
+        let value = Document::scan(&mut index, input)
+            .expect(&rt, "it is scanned")
+            .as_value();
         assert_eq!(rt; value.as_f64(), None, "{input:?}");
     }
 }

@@ -1,7 +1,7 @@
 // Look-up by key, beside that of a tape.
 use super::MEMORY;
 use simd_json::{Tape, to_tape};
-use simd_json_ondemand::Index;
+use simd_json_ondemand::{Document, Index};
 
 // An object and a key, and the integer that is the value of the first member with that key.
 const LOOKUPS: &[(&[u8], &str, Option<u64>)] = &[
@@ -209,7 +209,9 @@ fn other_bytes_are_searched_up_to_a_stop(rt: HostRuntime) {
         (b"{\"b\":1,\"a\":}", "a", None),
     ];
     for (input, key, wanted) in cases {
-        let root = index.find(input).expect(&rt, "it is scanned").as_value();
+        let root = Document::scan(&mut index, input)
+            .expect(&rt, "it is scanned")
+            .as_value();
         assert_eq!(rt; root.get(key).and_then(|v| v.as_u64()), wanted, "{input:?}");
     }
 }

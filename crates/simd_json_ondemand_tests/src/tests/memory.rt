@@ -1,7 +1,7 @@
 // Reservations, and allocations that fail.
 use super::MEMORY;
 use linked_list_allocator::LocalHeap;
-use simd_json_ondemand::{Error, ErrorType, Index};
+use simd_json_ondemand::{Document, Error, ErrorType, Index};
 use std::process::Abort;
 
 // Takes all free memory of the heap but this many bytes in one block.
@@ -37,9 +37,9 @@ fn reserved_indexes_take_no_memory(rt: HostRuntime) {
     let used = heap.used();
     for _ in 0..100 {
         for line in LINES {
-            let found = index.find(line).is_ok();
+            let found = Document::scan(&mut index, line).is_ok();
             assert!(rt; found);
-            assert_eq!(rt; index.fill(line), Ok(()));
+            assert_eq!(rt; index.scan(line), Ok(()));
         }
     }
     assert_eq!(rt; heap.used(), used);
@@ -53,14 +53,13 @@ fn allocations_fail(rt: HostRuntime) {
     let mut global = Index::new(rt.alloc(), 16).expect(&rt, MEMORY);
     let _ballast = ballast(&rt, &heap, 0);
     let wanted = Error::generic(ErrorType::OutOfMemory);
-    match index.find(b"[1]") {
+    match Document::scan(&mut index, b"[1]") {
         Ok(_) => assert!(rt; false),
         Err(e) => assert_eq!(rt; e, wanted),
     }
     let wanted = Err(Error::generic(ErrorType::OutOfMemory));
     assert_eq!(rt; index.reserve(1 << 20), wanted);
-    let value = global
-        .find(b"\"\\n\"")
+    let value = Document::scan(&mut global, b"\"\\n\"")
         .expect(&rt, "it is a document")
         .as_value();
     match value.decode(&mut buffer) {

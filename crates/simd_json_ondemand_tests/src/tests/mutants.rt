@@ -3,7 +3,7 @@ use super::check::checked;
 use super::tape::{assert_integers, assert_others, assert_string};
 use super::{MEMORY, takes_all};
 use simd_json::{Tape, tape, to_tape};
-use simd_json_ondemand::{Index, Value};
+use simd_json_ondemand::{Checker, Document, Value};
 use std::process::Abort;
 
 const SEEDS: &[&[u8]] = &[
@@ -98,8 +98,8 @@ fn assert_raw(
     case: &[u8],
 ) {
     let raw = value.raw().expect(rt, "a value has bytes");
-    let mut index = Index::new(rt.alloc(), 0).expect(rt, MEMORY);
-    let document = index.check(raw, 1024).expect(rt, "it is a document");
+    let mut checker = Checker::empty(rt.alloc());
+    let document = Document::check(&mut checker, raw, 1024).expect(rt, "it is a document");
     assert_alike(rt, Some(document.as_value()), Some(wanted), buffer, case);
 }
 
@@ -221,14 +221,14 @@ fn mutants_are_read_as_by_a_tape(rt: HostRuntime) {
     let mut numbers = Numbers {
         state: 0x9e37_79b9_7f4a_7c15,
     };
-    let mut index = Index::new(rt.alloc(), 0).expect(&rt, MEMORY);
+    let mut checker = Checker::empty(rt.alloc());
     let mut text = Vec::new(rt.alloc());
     let mut documents = 0_usize;
     let mutants = if takes_all(&rt) { 100_000 } else { 2_000 };
     for _ in 0..mutants {
         numbers.mutant(&mut text, &rt);
-        let error = checked(&rt, &mut index, &text, 1024);
-        let Ok(document) = index.find(&text) else {
+        let error = checked(&rt, &mut checker, &text, 1024);
+        let Ok(document) = Document::scan(&mut checker.index, &text) else {
             assert!(rt; error.is_some());
             continue;
         };

@@ -1,6 +1,6 @@
 // The members of objects.
 use super::MEMORY;
-use simd_json_ondemand::Index;
+use simd_json_ondemand::{Document, Index};
 
 // An object, and of each member the key and the integer that is its value, if it is one.
 const OBJECTS: &[(&[u8], &[(&str, Option<u8>)])] = &[
@@ -24,7 +24,9 @@ const OBJECTS: &[(&[u8], &[(&str, Option<u8>)])] = &[
 fn members_come_in_order(rt: HostRuntime) {
     let mut index = Index::new(rt.alloc(), 100).expect(&rt, MEMORY);
     for (input, wanted) in OBJECTS {
-        let root = index.find(input).expect(&rt, "it is a document").as_value();
+        let root = Document::scan(&mut index, input)
+            .expect(&rt, "it is a document")
+            .as_value();
         let object = root.as_object().expect(&rt, "it is an object");
         let mut i = 0_usize;
         for (key, value) in object {

@@ -1,6 +1,6 @@
 // Inputs that are no documents.
 use super::MEMORY;
-use simd_json_ondemand::{Error, ErrorType, Index, ValueType};
+use simd_json_ondemand::{Document, Error, ErrorType, Index, ValueType};
 
 #[test]
 fn errors_of_the_whole_input_are_found(rt: HostRuntime) {
@@ -13,7 +13,7 @@ fn errors_of_the_whole_input_are_found(rt: HostRuntime) {
         (b"\"\x1f\"", ErrorType::Syntax),
         (b"\"\xff\"", ErrorType::InvalidUtf8),
     ] {
-        match index.find(input) {
+        match Document::scan(&mut index, input) {
             Ok(_) => assert!(rt; false),
             Err(e) => assert_eq!(rt; e, Error::generic(kind), "{input:?}"),
         }

@@ -1,6 +1,6 @@
 // Cursors that go on at the end of what another cursor has read.
 use super::MEMORY;
-use simd_json_ondemand::{Array, End, Index, Object, Value};
+use simd_json_ondemand::{Array, Document, End, Index, Object, Value};
 use std::process::Abort;
 
 const DOCUMENTS: &[&[u8]] = &[
@@ -57,7 +57,9 @@ fn assert_array(rt: &impl Abort, elements: Array<'_>, steps: usize, case: &[u8])
 fn cursors_go_on_at_an_end(rt: HostRuntime) {
     let mut index = Index::new(rt.alloc(), 100).expect(&rt, MEMORY);
     for input in DOCUMENTS {
-        let root = index.find(input).expect(&rt, "it is a document").as_value();
+        let root = Document::scan(&mut index, input)
+            .expect(&rt, "it is a document")
+            .as_value();
         for steps in 0..4 {
             if let Some(members) = root.as_object() {
                 assert_object(&rt, members, steps, input);

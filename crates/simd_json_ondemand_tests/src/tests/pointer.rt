@@ -1,7 +1,7 @@
 // JSON Pointers (RFC 6901), beside those of a tape.
 use super::MEMORY;
 use simd_json::{Tape, to_tape};
-use simd_json_ondemand::{Expected, Found, Index, Pointer, ValueType};
+use simd_json_ondemand::{Document, Expected, Found, Index, Pointer, ValueType};
 
 // The document of RFC 6901, section 5, but for the array, which has integers.
 const SECTION_5: &[u8] = b"{\"foo\":[20,21],\"\":0,\"a/b\":1,\"c%d\":2,\"e^f\":3,\"g|h\":4,\
@@ -74,7 +74,9 @@ const OTHERS: &[(&str, Option<u64>)] = &[
 fn pointers_name_what_they_do_in_a_tape(rt: HostRuntime) {
     let mut index = Index::new(rt.alloc(), 0).expect(&rt, MEMORY);
     for (input, pointer, wanted) in POINTERS {
-        let root = index.find(input).expect(&rt, "it is a document").as_value();
+        let root = Document::scan(&mut index, input)
+            .expect(&rt, "it is a document")
+            .as_value();
         assert_eq!(rt;
             root.pointer(pointer).and_then(|v| v.as_u64()),
             *wanted,
@@ -95,7 +97,9 @@ fn pointers_name_what_they_do_in_a_tape(rt: HostRuntime) {
 #[test]
 fn keys_with_escapes_are_named(rt: HostRuntime) {
     let mut index = Index::new(rt.alloc(), 0).expect(&rt, MEMORY);
-    let root = index.find(ESCAPED).expect(&rt, "it is scanned").as_value();
+    let root = Document::scan(&mut index, ESCAPED)
+        .expect(&rt, "it is scanned")
+        .as_value();
     for (pointer, wanted) in OTHERS {
         assert_eq!(rt;
             root.pointer(pointer).and_then(|v| v.as_u64()),
@@ -176,7 +180,9 @@ const TRIED: &[(&[u8], &str, Tried)] = &[
 fn a_missing_value_is_no_fault(rt: HostRuntime) {
     let mut index = Index::new(rt.alloc(), 100).expect(&rt, MEMORY);
     for (input, pointer, wanted) in TRIED {
-        let root = index.find(input).expect(&rt, "it is scanned").as_value();
+        let root = Document::scan(&mut index, input)
+            .expect(&rt, "it is scanned")
+            .as_value();
         let integer = match root.try_pointer(pointer) {
             Ok(found) => Ok(found.and_then(|v| v.as_u64())),
             Err(e) => Err((e.index, e.expected, e.got)),

@@ -1,7 +1,7 @@
 // The accessors beside those of a tape.
 use super::MEMORY;
 use simd_json::{Tape, tape, to_tape};
-use simd_json_ondemand::{Index, Value};
+use simd_json_ondemand::{Document, Index, Value};
 use std::process::Abort;
 
 pub(super) const SCALARS: &[&[u8]] = &[
@@ -115,7 +115,7 @@ fn scalars_are_those_of_a_tape(rt: HostRuntime) {
         let mut copy = Vec::from_slice(rt.alloc(), input).expect(&rt, MEMORY);
         let tape: Tape<'_> = to_tape(rt.alloc(), &mut copy).expect(&rt, "it is a document");
         assert!(rt; !tape.is_empty());
-        let document = index.find(input).expect(&rt, "it is a document");
+        let document = Document::scan(&mut index, input).expect(&rt, "it is a document");
         let (value, wanted) = (document.as_value(), tape.as_value());
         assert_integers(&rt, value, wanted, input);
         assert_others(&rt, value, wanted, input);

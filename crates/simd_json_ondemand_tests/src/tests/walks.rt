@@ -1,7 +1,7 @@
 // Walks that stop, and where.
 use super::MEMORY;
 use super::check::DOCUMENTS;
-use simd_json_ondemand::{Expected, Found, Index, Unexpected, Value, ValueType};
+use simd_json_ondemand::{Checker, Document, Expected, Found, Index, Unexpected, Value, ValueType};
 use std::process::Abort;
 
 type Tried = Result<Option<u64>, (usize, Expected, Found)>;
@@ -130,13 +130,17 @@ fn integer(found: Result<Option<Value<'_>>, Unexpected>) -> Tried {
 fn a_missing_item_is_no_fault(rt: HostRuntime) {
     let mut index = Index::new(rt.alloc(), 100).expect(&rt, MEMORY);
     for (input, key, wanted) in KEYS {
-        let root = index.find(input).expect(&rt, "it is scanned").as_value();
+        let root = Document::scan(&mut index, input)
+            .expect(&rt, "it is scanned")
+            .as_value();
         assert_eq!(rt; integer(root.try_get(key)), *wanted, "{input:?}");
         let found = root.get(key).and_then(|value| value.as_u64());
         assert_eq!(rt; found, wanted.ok().unwrap_or(None), "{input:?}");
     }
     for (input, i, wanted) in INDEXES {
-        let root = index.find(input).expect(&rt, "it is scanned").as_value();
+        let root = Document::scan(&mut index, input)
+            .expect(&rt, "it is scanned")
+            .as_value();
         assert_eq!(rt; integer(root.try_get_idx(*i)), *wanted, "{input:?}");
         let found = root.get_idx(*i).and_then(|value| value.as_u64());
         assert_eq!(rt; found, wanted.ok().unwrap_or(None), "{input:?}");
@@ -175,7 +179,7 @@ fn walk(rt: &impl Abort, root: Value<'_>, input: &[u8]) {
 // Documents, and what is one after one of its bytes is replaced.
 #[test]
 fn walks_of_documents_do_not_stop(rt: HostRuntime) {
-    let mut checked = Index::new(rt.alloc(), 0).expect(&rt, MEMORY);
+    let mut checker = Checker::empty(rt.alloc());
     let mut index = Index::new(rt.alloc(), 0).expect(&rt, MEMORY);
     for document in DOCUMENTS {
         for i in 0..document.len() {
@@ -184,13 +188,13 @@ fn walks_of_documents_do_not_stop(rt: HostRuntime) {
                 if let Some(place) = changed.get_mut(i) {
                     *place = byte;
                 }
-                if checked.check(&changed, 64).is_ok() {
-                    let root = index.find(&changed).expect(&rt, "it is a document");
+                if checker.check(&changed, 64).is_ok() {
+                    let root = Document::scan(&mut index, &changed).expect(&rt, "it is a document");
                     walk(&rt, root.as_value(), &changed);
                 }
             }
         }
-        let root = index.find(document).expect(&rt, "it is a document");
+        let root = Document::scan(&mut index, document).expect(&rt, "it is a document");
         walk(&rt, root.as_value(), document);
     }
 }
@@ -229,7 +233,9 @@ fn scalars_of_another_kind_are_rejected(rt: HostRuntime) {
         (b"[1]", kinds),
         (b"x", kinds),
     ] {
-        let root = index.find(input).expect(&rt, "it is scanned").as_value();
+        let root = Document::scan(&mut index, input)
+            .expect(&rt, "it is scanned")
+            .as_value();
         assert_eq!(rt; rejections(root), wanted, "{input:?}");
     }
 }
@@ -253,7 +259,9 @@ fn errors_are_printed_in_words(rt: HostRuntime) {
         (b"{\"a\":}", "expected a value, found no value at byte 5"),
         (b" [1]", "expected an object, found an array at byte 1"),
     ] {
-        let root = index.find(input).expect(&rt, "it is scanned").as_value();
+        let root = Document::scan(&mut index, input)
+            .expect(&rt, "it is scanned")
+            .as_value();
         let e = root
             .try_get("a")
             .err()

@@ -10,7 +10,7 @@ use Rattle.simd_json_parts.specs.Limits.{max_length}
 use Rattle.simd_json_parts.specs.Positions.{positions}
 use Rattle.simd_json_parts.specs.declared.error.Error.{Error}
 use Rattle.simd_json_parts.specs.declared.error.ErrorType.TheVariants.{Syntax, Eof}
-use Rattle.simd_json_stages.specs.Scans.{IsShort, IsBadEncoding, LacksMemory}
+use Rattle.simd_json_stages.specs.Scans.{IsShort, IsBadEncoding, LacksListMemory}
 
 -- what the two tests on a scan decide
 pub fault-found : (b : List ℕ) (bad none : Bool) → length b ≤ max_length → IsUtf8 b → has_bad_string b ≡ bad
@@ -25,7 +25,7 @@ still-short b us vs xs ys l m (inl short) = inl (omega arith)
 still-short b us vs xs ys l m (inr short) = inr (omega arith)
 
 pub scan-fault : (b : List ℕ) (e : Error) (us vs xs ys : List ℕ) → length b ≤ max_length → length us ≤ length xs → length vs ≤ length ys
-    → IsBadEncoding b e ⊎ LacksMemory b e xs ys → (input_fault b ≡ Some e) ⊎ LacksMemory b e us vs
+    → IsBadEncoding b e ⊎ LacksListMemory b e xs ys → (input_fault b ≡ Some e) ⊎ LacksListMemory b e us vs
 scan-fault b e us vs xs ys size l m (inl bad) = inl (bad_encoding b size bad.1 ∙ ap Some (sym bad.0))
 scan-fault b e us vs xs ys size l m (inr (is, fits, string, short)) = inr (is, fits, string, still-short b us vs xs ys l m short)
 

@@ -13,7 +13,8 @@
 //! block. Then the only branches are on how many bits a word has. simdjson stores eight at a time;
 //! here it is four, and a word with more than 16 bits is finished one by one.
 ghost use Rattle.std.specs.Prelude.{◌≡◌, ◌+◌, ◌^◌, ◌<◌, ◌≤◌, ◌++◌, [], ◌∷◌, ℕ, List, length, take};
-ghost use Rattle.std.specs.Prelude.{if◌then◌else◌, IsTrue, IfErr, OnOk};
+ghost use Rattle.std.specs.Prelude.{if◌then◌else◌, IsTrue, IfErr, OnErr, OnOk, max};
+ghost use Rattle.std.specs.Vec.{vec_capacity};
 ghost use Rattle.std.specs.Int.{from_bool};
 ghost use Rattle.std.specs.Int.RustNames.{count_ones};
 ghost use Rattle.simd_json_parts.specs.Faults.{whole_fault};
@@ -22,7 +23,7 @@ ghost use Rattle.simd_json_stages.specs.Words.{set_bits};
 ghost use Rattle.simd_json_stages.specs.Stored.{IsStored};
 
 use simd_json_parts::error::Result;
-use std::alloc::Allocator;
+use std::alloc::{AllocError, Allocator};
 
 // How many entries more than are needed a list is filled with: they are still in the cache when
 // they are overwritten.
@@ -74,6 +75,25 @@ pub(super) fn grow<A: Allocator>(
         return Ok(());
     }
     reserve_and_fill(list, need, guess, max_len)
+}
+
+/// Makes a list at least `len` long, with this filler. What it held stays. If an allocation fails
+/// the list is unchanged.
+pub fn lengthen<T: Copy, A: Allocator>(
+    list: &mut Vec<T, A>,
+    len: usize,
+    filler: T,
+) -> std::result::Result<(), AllocError>
+    ensures kept { take (length list.old.items) list.new.items ≡ list.old.items }
+    ensures longer { OnOk result (length list.new.items ≡ max (length list.old.items) len) }
+    ensures failed { OnErr result ((list.new.items ≡ list.old.items)
+        × (length list.old.items < len) × (vec_capacity list.old < len)) }
+    ensures capacity { vec_capacity list.old ≤ vec_capacity list.new }
+{
+    if list.len() < len {
+        list.resize(len, filler)?;
+    }
+    Ok(())
 }
 
 // Stores the index of the lowest bit as entry `at`, and returns the other bits. `base` is the index

@@ -17,7 +17,7 @@ ghost use Rattle.simd_json_parts.specs.Limits.{max_length};
 ghost use Rattle.simd_json_stages.specs.Blocks.{AreClassified, AreParts, IsClassified};
 ghost use Rattle.simd_json_stages.specs.Blocks.{IsControl, IsPlaced, IsScanned};
 ghost use Rattle.simd_json_stages.specs.Carries.{IsChecked, is_escaped_at};
-ghost use Rattle.simd_json_stages.specs.Scans.{IsBadEncoding, IsFound, LacksMemory};
+ghost use Rattle.simd_json_stages.specs.Scans.{IsBadEncoding, IsFound, LacksListMemory};
 
 mod groups;
 mod windows;
@@ -148,7 +148,7 @@ pub(super) fn scan_blocks<A: Allocator>(
         structural_indexes.new.items escape_blocks.new.items) }
     ensures checked { IfOk result (λ r. IsChecked input.now r.1) }
     ensures fault { IfErr result (λ e. IsBadEncoding input.now e
-        ⊎ LacksMemory input.now e structural_indexes.old.items escape_blocks.old.items) }
+        ⊎ LacksListMemory input.now e structural_indexes.old.items escape_blocks.old.items) }
     ensures longer { (length structural_indexes.old.items ≤ length structural_indexes.new.items)
         × (length escape_blocks.old.items ≤ length escape_blocks.new.items) }
 {
@@ -202,7 +202,7 @@ fn scan_short<A: Allocator>(
         structural_indexes.new.items escape_blocks.new.items) }
     ensures checked { IfOk result (λ r. IsChecked input.now r.1) }
     ensures fault { IfErr result (λ e. IsBadEncoding input.now e
-        ⊎ LacksMemory input.now e structural_indexes.old.items escape_blocks.old.items) }
+        ⊎ LacksListMemory input.now e structural_indexes.old.items escape_blocks.old.items) }
     ensures longer { (length structural_indexes.old.items ≤ length structural_indexes.new.items)
         × (length escape_blocks.old.items ≤ length escape_blocks.new.items) }
 {
@@ -269,7 +269,7 @@ pub(super) fn scan_rest<A: Allocator>(
     ensures found { IfOk result (λ r. IsFound input.now r.0 r.1
         structural_indexes.new.items escape_blocks.new.items) }
     ensures fault { IfErr result (λ e. IsBadEncoding input.now e
-        ⊎ LacksMemory input.now e structural_indexes.old.items escape_blocks.old.items) }
+        ⊎ LacksListMemory input.now e structural_indexes.old.items escape_blocks.old.items) }
     ensures longer { (length structural_indexes.old.items ≤ length structural_indexes.new.items)
         × (length escape_blocks.old.items ≤ length escape_blocks.new.items) }
 {

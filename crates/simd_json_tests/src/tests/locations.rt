@@ -1,7 +1,7 @@
 // Places of errors that no row has; worked ones are in tests/vectors/places.txt.
 use crate::tests::memory::{MEMORY, ballast};
 use linked_list_allocator::LocalHeap;
-use simd_json::{Error, ErrorType, Location, Reason, locate};
+use simd_json_check::{Error, ErrorType, Location, Reason, locate};
 use std::alloc::{AllocError, Allocator};
 use std::process::Abort;
 

@@ -39,7 +39,8 @@ mod members {
 }
 
 mod errors {
-    use simd_json::{Location, to_tape};
+    use simd_json::to_tape;
+    use simd_json_check::Location;
 
     pub(super) fn line_of_error(rt: &impl AllocGlobal) -> Option<usize> {
         let input = *b"[1,\n2,]";

@@ -6,7 +6,7 @@ use Rattle.simd_json.specs.Capacities.{capacity}
 use Rattle.simd_json.specs.Reserved.{bytes_listed}
 use Rattle.simd_json_stages.specs.NodesEnough.{nodes_enough}
 use Rattle.simd_json.proofs.Parses.ParseEnds.{built-some, built-tape, bytes-short, parse-unread, parse-written, written-all}
-use Rattle.simd_json_check.proofs.Whole.{few-positions, right-input}
+use Rattle.simd_json_stages.proofs.Whole.{few-positions, right-input}
 use Rattle.simd_json.proofs.parse.fill_tape.Goals as goal
 
 pub returns-in_err-find_positions-clause-parse : goal.returns-in_err-find_positions-clause-parse
@@ -22,12 +22,12 @@ returns-in-Err-clause-parse g c =
     let found = c.in_ok-find_positions.ensures.found in
     let limit = c.args.buffers.now.limit in
     let held = c.args.tape.now.capacity in
-    let count = length c.structural_indexes-positions.result.now in
+    let count = length c.scanned.result.structural_indexes.now in
     let same = ap (λ r. r.limit) c.buffers.view_is ∙ c.in_ok-find_positions.ensures.limit in
     let enough = c.nodes_enough.ensures.enough ∙ ap (nodes_enough count) same in
     let asked = subst (λ n. c.clear.new.self.capacity < n) enough c.in-Err.ensures.fault.1 in
     let few = bytes-short count limit held (subst (λ n. n < nodes_enough count limit) (ap (λ t. t.capacity) c.clear.ensures) asked) in
-    let listed = ap length (c.structural_indexes-positions.ensures ∙ found.listed) in
+    let listed = ap length (c.scanned.ensures.indexes ∙ ap (λ r. r.index.listed) c.buffers.view_is ∙ found.listed) in
     let right = right-input c.args.s.now found.whole in
     parse-unread {A = Unit {0}} (Err c.in-Err.e) c.args.s.now limit (min (bytes_listed limit held) (capacity c.args.buffers.now))
     (bytes_listed limit held) c.in-Err.e _ _ refl (c.reserve.ensures.nodes ∙ ap (λ t. t.nodes) c.clear.ensures)

@@ -1,6 +1,6 @@
 use Rattle.std.proofs.Common.{◌∙◌, ap, arith}
 use Rattle.std.proofs.lemmas.Result.{IfErr-weaker, on_ok_weaker}
-use Rattle.simd_json_check.specs.Capacities.{capped}
+use Rattle.simd_json_stages.specs.Capacities.{capped}
 use Rattle.simd_json_stages.specs.NodesEnough.{nodes_enough}
 use Rattle.simd_json.proofs.Parses.Reservations.{enough-nodes, lack, reserved, room, room-same}
 use Rattle.simd_json.proofs.parse.reserve.Goals as goal

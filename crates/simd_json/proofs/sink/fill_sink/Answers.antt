@@ -1,6 +1,6 @@
 use Rattle.std.proofs.Common.{◌∙◌, ◌≤◌, ap, arith, length, refl, subst}
 use Rattle.std.specs.Result.{OnOk, result_err}
-use Rattle.simd_json_check.proofs.Whole.{nodes-within}
+use Rattle.simd_json_stages.proofs.Whole.{nodes-within}
 use Rattle.simd_json.specs.Capacities.{HoldsScan, capacity}
 use Rattle.simd_json.specs.Parsed.{IsParse, nodes_written}
 use Rattle.simd_json.proofs.Parses.ParseEnds.{parse-unread, parse-written, unwritten}

@@ -3,7 +3,7 @@ use Rattle.std.specs.Result.{OnOk, result_err}
 use Rattle.std.proofs.lemmas.List.{length-map}
 use Rattle.std.proofs.lemmas.List.Elements.{All-nil}
 use Rattle.std.specs.List.{All}
-use Rattle.simd_json_check.proofs.Whole.{nodes-within}
+use Rattle.simd_json_stages.proofs.Whole.{nodes-within}
 use Rattle.simd_json_stages.specs.Placed.{LiesIn, Placed}
 use Rattle.simd_json.specs.Capacities.{capacity}
 use Rattle.simd_json.specs.Parsed.{IsParse, nodes_written}

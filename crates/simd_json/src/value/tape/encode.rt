@@ -12,7 +12,7 @@ impl Value<'_, '_> {
     ghost use Rattle.std.specs.Prelude.{◌≡◌, ℕ, take, string_bytes, IfOk, IfErr, OnOk};
     ghost use Rattle.std.specs.Prelude.{OnErr};
     ghost use Rattle.std.specs.Io.KnownBytes.{Appends};
-    ghost use Rattle.simd_json_check.specs.Capacities.{IsOutOfMemory};
+    ghost use Rattle.simd_json_stages.specs.Capacities.{IsOutOfMemory};
     ghost use Rattle.simd_json.specs.PrintedAgain.{DenotesEqual};
     ghost use Rattle.simd_json.specs.Viewed.{doc};
     ghost use Rattle.simd_json_parts.specs.Printed.{compact, pretty};

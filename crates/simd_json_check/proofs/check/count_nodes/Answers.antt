@@ -1,5 +1,5 @@
 use Rattle.std.proofs.Common.{ap, refl, length, sym, subst, min, max, ◌≤◌}
-use Rattle.simd_json_check.proofs.Whole.{nodes-within}
+use Rattle.simd_json_stages.proofs.Whole.{nodes-within}
 use Rattle.simd_json_check.proofs.check.count_nodes.Goals as goal
 
 pub build_tape-requires : goal.build_tape-requires

@@ -4,7 +4,7 @@ use Rattle.simd_json_parts.specs.Descent.{descent}
 use Rattle.simd_json_parts.specs.Faults.{whole_fault}
 use Rattle.simd_json_parts.specs.declared.error.ErrorType.TheVariants.{OutOfMemory}
 use Rattle.simd_json_stages.proofs.Exits.{passed-on}
-use Rattle.simd_json_check.proofs.Whole.{descent-answered, few-positions, right-input}
+use Rattle.simd_json_stages.proofs.Whole.{descent-answered, few-positions, right-input}
 use Rattle.simd_json_check.proofs.check.parse_copy.Goals as goal
 
 pub returns-in_err-extend_from_slice-clause-fault : goal.returns-in_err-extend_from_slice-clause-fault

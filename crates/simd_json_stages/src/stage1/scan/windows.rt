@@ -10,7 +10,7 @@ ghost use Rattle.simd_json_parts.specs.Limits.{max_length};
 ghost use Rattle.simd_json_stages.specs.Blocks.{CanList, HaveNoBackslash};
 ghost use Rattle.simd_json_stages.specs.BlockScans.{CanScan, Scans};
 ghost use Rattle.simd_json_stages.specs.Carries.{IsChecked};
-ghost use Rattle.simd_json_stages.specs.Scans.{IsBadEncoding, LacksMemory};
+ghost use Rattle.simd_json_stages.specs.Scans.{IsBadEncoding, LacksListMemory};
 
 use super::ScanState;
 use super::groups::{GROUP, scan_groups};
@@ -149,7 +149,7 @@ pub(super) fn capacity_for<A: Allocator>(
     ensures longer { (length structural_indexes.old.items ≤ length structural_indexes.new.items)
         × (length escape_blocks.old.items ≤ length escape_blocks.new.items) }
     ensures fault { IfErr result (λ e. IsBadEncoding input.now e
-        ⊎ LacksMemory input.now e structural_indexes.old.items escape_blocks.old.items) }
+        ⊎ LacksListMemory input.now e structural_indexes.old.items escape_blocks.old.items) }
 {
     let count = window.end - window.first;
     let positions = done.placing.used + BLOCK_LEN * count;

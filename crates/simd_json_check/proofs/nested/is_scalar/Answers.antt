@@ -11,7 +11,7 @@ use Rattle.simd_json_scalars.specs.declared.numberparse.Number.TheVariants.{Inte
 use Rattle.simd_json_stages.proofs.Tokens.ScalarLaws.{form_at-number, byte_at-after}
 use Rattle.simd_json_check.specs.Scalars.{scalar_of, begins_number}
 use Rattle.simd_json_check.proofs.Words.{spelt-here, null-standing, true-standing, false-standing}
-use Rattle.simd_json_check.proofs.scalars.is_scalar.Goals as goal
+use Rattle.simd_json_check.proofs.nested.is_scalar.Goals as goal
 
 -- a number begins at the index
 begins : (b bs : List ℕ) (i : ℕ) → drop i b ≡ bs → 0 < length bs → true ≡ begins_number (get_or bs 0 0)
