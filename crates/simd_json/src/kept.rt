@@ -4,21 +4,19 @@ ghost use Rattle.std.specs.Prelude.{length, map, IfOk, IsTrue, IsFalse, slice_se
 ghost use Rattle.std.specs.Result.{result_err};
 ghost use Rattle.std.specs.Vec.{vec_capacity};
 ghost use Rattle.simd_json.specs.Capacities.{KeepsCapacities, capacity};
-ghost use Rattle.simd_json.specs.KeptSpans.{AreFormed, IsNoted, Loan, Note};
+ghost use Rattle.simd_json.specs.KeptSpans.{AreFormed, IsNoted, Loan};
 ghost use Rattle.simd_json.specs.Parsed.{IsParseResult};
 ghost use Rattle.simd_json_parts.specs.Limits.{max_length};
 ghost use Rattle.simd_json_parts.specs.Nodes.{static_item, string_item, decimal_item};
 ghost use Rattle.simd_json_stages.specs.Building.{header_of};
 ghost use Rattle.simd_json_stages.specs.Placed.{Placed, is_long, placed_at, textless};
-ghost use base.Fml.{ftrue};
 
 use crate::buffers::Buffers;
 use crate::spans::fill_spans;
 use simd_json_parts::error::Result;
 use simd_json_parts::node::StaticNode;
-use simd_json_stages::stage2::{Container, SpanSink};
+use simd_json_stages::stage2::{Container, Noted, SpanSink};
 use std::alloc::Allocator;
-use std::marker::Model;
 
 /// A node of a form of the caller's own, which [`keep_spans`] keeps. It is made of where its text
 /// lies in the input after the parse, a byte index and a number of bytes. Here it is that alone:
@@ -43,10 +41,10 @@ use std::marker::Model;
 ///     fn decimal(at: usize, len: usize) -> Place {
 ///         Place { at, len }
 ///     }
-///     fn long(at: usize, len: usize, _value: StaticNode) -> Place {
+///     fn wide_integer(at: usize, len: usize, _value: StaticNode) -> Place {
 ///         Place { at, len }
 ///     }
-///     fn fixed(_value: StaticNode) -> Place {
+///     fn short_scalar(_value: StaticNode) -> Place {
 ///         Place { at: 0, len: 0 }
 ///     }
 ///     fn header(_container: Container, _len: usize, _count: usize) -> Place {
@@ -69,13 +67,13 @@ pub trait SpanNode: Copy {
             → result ≡ form (placed_at at text (decimal_item text)) };
 
     /// An integer that needs 128 bits: where its literal lies, and its value.
-    fn long(at: usize, len: usize, value: StaticNode) -> Self
+    fn wide_integer(at: usize, len: usize, value: StaticNode) -> Self
         requires { is_long value ≡ true }
         ensures { (text : List ℕ) → length text ≡ len
             → result ≡ form (placed_at at text (static_item value)) };
 
     /// A null, a boolean or an integer of 64 bits.
-    fn fixed(value: StaticNode) -> Self
+    fn short_scalar(value: StaticNode) -> Self
         requires { is_long value ≡ false }
         ensures { result ≡ form (textless (static_item value)) };
 
@@ -173,15 +171,15 @@ impl<N: SpanNode> SpanSink for KeptSink<'_, N> {
     }
 
     #[inline(always)]
-    fn push_long(&mut self, at: usize, literal: &str, value: StaticNode) {
+    fn push_wide(&mut self, at: usize, literal: &str, value: StaticNode) {
         let noted = Noted::of(&(&self.noted, at, literal, value));
-        self.put(N::long(at, literal.len(), value), noted);
+        self.put(N::wide_integer(at, literal.len(), value), noted);
     }
 
     #[inline(always)]
     fn push_static(&mut self, value: StaticNode) {
         let noted = Noted::of(&(&self.noted, value));
-        self.put(N::fixed(value), noted);
+        self.put(N::short_scalar(value), noted);
     }
 
     #[inline(always)]
@@ -194,29 +192,6 @@ impl<N: SpanNode> SpanSink for KeptSink<'_, N> {
     fn set_counts(&mut self, header: usize, container: Container, len: usize, count: usize) {
         set_node(self.nodes, header, N::header(container, len, count));
         self.noted = Noted::of(&(&self.noted, header, container, len, count));
-    }
-}
-
-// The record of the nodes that were appended, kept or not. It has no bytes at run time, and only
-// clauses determine `note`.
-#[derive(Drop)]
-struct Noted {
-    ghost note: { Note },
-}
-
-impl Model for Noted {
-    ghost also_owns = { λ _. ftrue };
-}
-
-impl Noted {
-    // The record that the caller's proof chooses; `seen` makes its values available to that proof.
-    #[inline(always)]
-    fn of<T>(seen: &T) -> Noted
-        ghost note: { Note }
-        ensures { result.note ≡ note }
-    {
-        let _ = seen;
-        Noted {}
     }
 }
 

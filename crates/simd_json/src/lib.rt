@@ -32,9 +32,8 @@
 //! | read each input into the same memory | [`refill_tape`] |
 //! | read an input that [`INPUT_PADDING`] bytes follow | [`fill_tape_padded`] |
 //! | exclude `OutOfMemory` for inputs up to a size | [`reserve`], before the parses |
-//! | make nodes of your own, without a tape | [`fill_sink`] with a [`NodeSink`] |
-//! | the same with texts that stay in the input | [`fill_spans`] with a [`SpanSink`] |
-//! | keep those in a list | [`keep_spans`] with a [`SpanNode`] |
+//! | make nodes of your own, without a tape | [`fill_spans`] with a [`SpanSink`] |
+//! | keep them in a list | [`keep_spans`] with a [`SpanNode`] |
 //! | look at values | [`Value`](tape::Value), [`Array`](tape::Array), [`Object`](tape::Object) |
 //! | visit all values | [`Value::descendants`](tape::Value::descendants) |
 //! | follow a JSON Pointer (RFC 6901) | [`Value::pointer`](tape::Value::pointer), [`Pointer`] |
@@ -80,7 +79,6 @@ mod deserializer;
 mod kept;
 pub mod laws;
 mod parse;
-mod sink;
 mod spans;
 pub mod value;
 
@@ -92,8 +90,7 @@ pub use simd_json_parts::error::{Error, ErrorType, Result};
 pub use simd_json_parts::node::{Node, StaticNode, TryTypeError, ValueType};
 pub use simd_json_print::document::{append_quoted, write_quoted};
 pub use simd_json_stages::DEFAULT_MAX_DEPTH;
-pub use simd_json_stages::stage2::{Container, ListSink, NodeSink, Original, SpanSink};
-pub use sink::fill_sink;
+pub use simd_json_stages::stage2::{Container, SpanSink};
 pub use spans::fill_spans;
 pub use value::pointer::{Pointer, PointerError, PointerExpected};
 pub use value::tape;

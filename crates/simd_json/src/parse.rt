@@ -25,7 +25,7 @@ use crate::tape::Tape;
 use crate::{DEFAULT_MAX_DEPTH, INPUT_PADDING};
 use simd_json_parts::error::{Error, ErrorType, Result};
 use simd_json_parts::node::Node;
-use simd_json_stages::stage2::{ListSink, Original, build_tape, nodes_enough};
+use simd_json_stages::stage2::{Original, build_tape, nodes_enough};
 use std::alloc::Allocator;
 use std::marker::Brand;
 
@@ -278,9 +278,8 @@ pub fn reserve<A: Allocator, B: Allocator>(
     tape.reserve(nodes_enough(positions, buffers.max_depth))
 }
 
-// Runs the second stage into a list with enough capacity. After an error the list is empty. The
-// sink is made here, and all that takes it is inlined, so that the pointer to the list stays in a
-// register.
+// Runs the second stage into a list with enough capacity. After an error the list is empty. All
+// that takes the list is inlined, so that the pointer to it stays in a register.
 #[inline(never)]
 fn build<'de, K: Original, A: Allocator, B: Allocator>(
     s: &'de mut [u8],
@@ -301,19 +300,18 @@ fn build<'de, K: Original, A: Allocator, B: Allocator>(
     ensures rejected { IfErr result
         (λ e. IsTokenFault e × (descent K.bytes buffers.old.limit ≡ Err e)) }
 {
-    let mut sink = ListSink { list };
-    let built = build_tape::<K, ListSink<'_, 'de, B>>(
+    let built = build_tape::<K, Node<'de>, B>(
         s,
         buffers.index.scanned(),
         buffers.stack.as_mut_slice(),
         &mut buffers.few,
-        &mut sink,
+        list,
         buffers.max_depth,
     );
     match built {
         Ok(()) => Ok(()),
         Err(e) => {
-            sink.list.clear();
+            list.clear();
             Err(e)
         }
     }

@@ -13,11 +13,12 @@ use simd_json_stages::stage2::{SpanSink, build_spans};
 use std::alloc::Allocator;
 use std::marker::Brand;
 
-/// Reads a document as [`fill_sink`](crate::fill_sink) does, and writes its nodes to an empty sink
-/// that keeps no reference to their texts, but is told where each begins. So `s` is the caller's
-/// again after the call, and the texts are borrowed from there: a string or a key with its escapes
-/// decoded, without quotes, and the literal of a number with a fraction or an exponent.
-/// [`SpanSink`] has an example.
+/// Reads a document as [`fill_tape`](crate::fill_tape) does, and writes its nodes to an empty sink
+/// in place of a tape: to a form of the caller's own, in one pass. The sink has room for
+/// 4,294,967,295 nodes, since no document has more. It gets each text and the index where that
+/// begins, and keeps no reference to it. So `s` is the caller's again after the call, and the texts
+/// are borrowed from there: a string or a key with its escapes decoded, without quotes, and the
+/// literal of a number with a fraction or an exponent. [`SpanSink`] has an example.
 ///
 /// The errors are those of [`to_tape`](crate::to_tape). After one without a character sink and
 /// input are as they were; after another the sink may hold nodes that were written before the

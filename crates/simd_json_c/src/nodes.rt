@@ -31,13 +31,13 @@ impl SpanNode for Node {
     }
 
     #[inline(always)]
-    fn long(at: usize, len: usize, value: StaticNode) -> Node {
+    fn wide_integer(at: usize, len: usize, value: StaticNode) -> Node {
         span_of(long_kind(value), len, at)
     }
 
     // Its kind is known where this is inlined, so the other cases disappear.
     #[inline(always)]
-    fn fixed(value: StaticNode) -> Node {
+    fn short_scalar(value: StaticNode) -> Node {
         let (kind, value) = match value {
             StaticNode::Bool(value) => (1, value as u64),
             StaticNode::I64(value) => (2, value.cast_unsigned()),

@@ -9,19 +9,19 @@ ghost use Rattle.simd_json_parts.specs.Answer.{answer};
 ghost use Rattle.simd_json_parts.specs.Descent.{descent};
 ghost use Rattle.simd_json_parts.specs.Document.{Document};
 ghost use Rattle.simd_json_parts.specs.Limits.{max_length};
-ghost use Rattle.simd_json_parts.specs.Nodes.{Item};
 ghost use Rattle.simd_json_parts.specs.Positions.{positions};
-ghost use Rattle.simd_json_stages.specs.Building.{header_of};
 ghost use Rattle.simd_json_stages.specs.Capacities.{LacksMemory, positions_after};
+ghost use Rattle.simd_json_stages.specs.Placed.{Placed};
 ghost use Rattle.simd_json_stages.specs.Scans.{IsScanOf};
-ghost use base.Fml.{ftrue};
 
 use crate::escapes::are_escapes_valid;
 use crate::nested::value_end;
 use simd_json_parts::error::Result;
 use simd_json_parts::node::StaticNode;
 use simd_json_stages::stage1::lengthen;
-use simd_json_stages::stage2::{Container, NodeSink, Original, Scanned, StackState, build_tape};
+use simd_json_stages::stage2::{
+    Container, Noted, Original, Scanned, SpanSink, StackState, build_spans,
+};
 use simd_json_stages::{FEW_OPEN, Index};
 use std::alloc::{Allocator, Global};
 use std::marker::{Brand, Model};
@@ -193,7 +193,7 @@ fn count_nodes<K: Original>(
         count: 0,
         noted: Noted::of(&()),
     };
-    build_tape::<K, Counted>(input, scanned, stack, &mut few, &mut sink, max_depth)
+    build_spans::<K, Counted>(input, scanned, stack, &mut few, &mut sink, max_depth)
 }
 
 // The counts of a sink without nodes.
@@ -203,7 +203,7 @@ struct Counted {
     count: usize,
     // the ghost record of the nodes
     noted: Noted,
-    ghost counted: { count ≡ length noted.items },
+    ghost counted: { count ≡ length noted.note.placed },
 }
 
 impl Counted {
@@ -211,17 +211,17 @@ impl Counted {
     // proof.
     #[inline(always)]
     fn put<T>(&mut self, seen: &T)
-        ghost item: { Item }
-        requires { length self.old.noted.items < max_length }
-        ensures { self.new.noted.items ≡ self.old.noted.items ++ item ∷ [] }
+        ghost node: { Placed }
+        requires { length self.old.noted.note.placed < max_length }
+        ensures { self.new.noted.note.placed ≡ self.old.noted.note.placed ++ node ∷ [] }
     {
         self.count += 1;
         self.noted = Noted::of(&(&self.noted, seen));
     }
 }
 
-impl<'de> NodeSink<'de> for Counted {
-    ghost held_nodes = { λ s. s.noted.items };
+impl SpanSink for Counted {
+    ghost placed = { λ s. s.noted.note.placed };
 
     ghost node_room = { λ _. max_length };
 
@@ -235,13 +235,18 @@ impl<'de> NodeSink<'de> for Counted {
     }
 
     #[inline(always)]
-    fn push_string(&mut self, string: &'de str) {
-        self.put(&string);
+    fn push_string(&mut self, at: usize, string: &str) {
+        self.put(&(at, string));
     }
 
     #[inline(always)]
-    fn push_decimal(&mut self, literal: &'de str) {
-        self.put(&literal);
+    fn push_decimal(&mut self, at: usize, literal: &str) {
+        self.put(&(at, literal));
+    }
+
+    #[inline(always)]
+    fn push_wide(&mut self, at: usize, literal: &str, value: StaticNode) {
+        self.put(&(at, literal, value));
     }
 
     #[inline(always)]
@@ -257,27 +262,5 @@ impl<'de> NodeSink<'de> for Counted {
     #[inline(always)]
     fn set_counts(&mut self, header: usize, container: Container, len: usize, count: usize) {
         self.noted = Noted::of(&(&self.noted, header, container, len, count));
-    }
-}
-
-// The record. It has no bytes at run time, and only clauses determine `items`.
-#[derive(Drop)]
-struct Noted {
-    ghost items: { List Item },
-}
-
-impl Model for Noted {
-    ghost also_owns = { λ _. ftrue };
-}
-
-impl Noted {
-    // The record that the caller's proof chooses; `seen` makes its values available to that proof.
-    #[inline(always)]
-    fn of<T>(seen: &T) -> Noted
-        ghost items: { List Item }
-        ensures { result.items ≡ items }
-    {
-        let _ = seen;
-        Noted {}
     }
 }

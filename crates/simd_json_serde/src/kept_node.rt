@@ -35,12 +35,12 @@ impl SpanNode for KeptNode {
     }
 
     #[inline(always)]
-    fn long(_at: usize, _len: usize, value: StaticNode) -> KeptNode {
+    fn wide_integer(_at: usize, _len: usize, value: StaticNode) -> KeptNode {
         static_node(value)
     }
 
     #[inline(always)]
-    fn fixed(value: StaticNode) -> KeptNode {
+    fn short_scalar(value: StaticNode) -> KeptNode {
         static_node(value)
     }
 

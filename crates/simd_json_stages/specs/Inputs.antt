@@ -8,7 +8,7 @@ use Rattle.simd_json_parts.specs.StringAt.{closing_quote}
 use Rattle.simd_json_parts.specs.declared.node.StaticNode.{StaticNode}
 use Rattle.simd_json_stages.specs.EscapesAhead.{AreAhead, PlainFrom}
 use Rattle.simd_json_stages.specs.declared.stage2.escapes.Escapes.{Escapes}
-use Rattle.simd_json_stages.specs.declared.stage2.input.Input.{Input}
+use Rattle.simd_json_stages.specs.declared.stage2.input.Unread.{Unread}
 
 -- what is lent is the input from an index on, no later than i, with the blocks ahead that hold a backslash
 pub record IsLent (b bytes : List ℕ) (at : ℕ) (escapes : Escapes) (i : ℕ) : Type 0 where
@@ -22,7 +22,7 @@ pub record IsShared (b shared : List ℕ) : Type 0 where
   pub plain : PlainFrom b 0 (length b)
 
 -- All bytes of the input b from index i on can be read.
-pub record Reads (b : List ℕ) (t : Input) (i : ℕ) : Type 0 where
+pub record Reads (b : List ℕ) (t : Unread) (i : ℕ) : Type 0 where
   pub fits : length b < 2 ^ 64
   pub end : t.end ≡ length b
   pub whole : IsTrue t.is_plain → IsShared b t.shared.now

@@ -30,13 +30,13 @@ pub record HasCapacity (ps : List ℕ) (limit : ℕ) (stack : List StackState) (
 
 -- after a token, where the next one can be read if there is one
 pub record AfterToken (b : List ℕ) (r : Route) (reads : ℕ → Type 0) (p : Progress) : Type 0 where
-  pub on_route : IsOnRoute r.ends_closed b r.indexes.now
+  pub on_route : IsOnRoute r.ends_closed r.end b r.indexes.now
   pub read : IsRead b r.indexes.now p
   pub input : p.read < length r.indexes.now → reads (slice_index r.indexes.now p.read)
 
 -- at the opening quote of a string
 pub record AtString (b : List ℕ) (r : Route) (reads : ℕ → Type 0) (capacity written : ℕ) (p : Progress) : Type 0 where
-  pub on_route : IsOnRoute r.ends_closed b r.indexes.now
+  pub on_route : IsOnRoute r.ends_closed r.end b r.indexes.now
   pub read : IsRead b r.indexes.now p
   pub token : Contains (tokens b) (record { index = p.at; form = form_at b p.at })
   pub opening : p.byte ≡ quote
@@ -52,7 +52,7 @@ IsFrom n End = Unit {0}
 module _ (b : List ℕ) (r : Route) (m : Machine) (reads : ℕ → Type 0) (capacity : ℕ) (nodes : List Item) where
   -- at the first token of a value
   pub record AtFirst (p : Progress) : Type 0 where
-    pub on_route : IsOnRoute r.ends_closed b r.indexes.now
+    pub on_route : IsOnRoute r.ends_closed r.end b r.indexes.now
     pub capacities : HasCapacity r.indexes.now r.max_depth m.stack.now capacity
     pub progress : IsBefore b r.indexes.now reads (length nodes) p
     pub depth : p.depth ≤ r.max_depth
@@ -71,7 +71,7 @@ module _ (b : List ℕ) (r : Route) (m : Machine) (reads : ℕ → Type 0) (capa
 
   -- at the first token of a member of an object, where a fault of this kind is reported if it is no key
   pub record AtPair (p : Progress) (kind : FaultKind) : Type 0 where
-    pub on_route : IsOnRoute r.ends_closed b r.indexes.now
+    pub on_route : IsOnRoute r.ends_closed r.end b r.indexes.now
     pub capacities : HasCapacity r.indexes.now r.max_depth m.stack.now capacity
     pub progress : IsBefore b r.indexes.now reads (length nodes) p
     pub depth : p.depth ≤ r.max_depth
@@ -79,7 +79,7 @@ module _ (b : List ℕ) (r : Route) (m : Machine) (reads : ℕ → Type 0) (capa
 
   -- after a value
   pub record AfterLast (p : Progress) : Type 0 where
-    pub on_route : IsOnRoute r.ends_closed b r.indexes.now
+    pub on_route : IsOnRoute r.ends_closed r.end b r.indexes.now
     pub capacities : HasCapacity r.indexes.now r.max_depth m.stack.now capacity
     pub progress : IsAfter b r.indexes.now reads (length nodes) p
     pub depth : p.depth ≤ r.max_depth

@@ -50,6 +50,17 @@ pub record LiesIn (bytes : List ℕ) (p : Placed) : Type 0 where
   pub is_text : IsTextOf p.item p.text
   pub utf8 : IsUtf8 p.text
 
+-- ---- what a sink was given
+
+-- the nodes, and for how many its list had capacity at first
+pub record Note : Type 0 where
+  pub placed : List Placed
+  pub node_capacity : ℕ
+
+-- one more node is known
+abbrev pub noting : Note → Placed → Note
+noting n p = record n { placed = n.placed ++ p ∷ [] }
+
 -- ---- what serves proofs
 
 -- it lies before an index

@@ -27,8 +27,9 @@ pub record IsNext (b ps : List ℕ) (p q : Progress) : Type 0 where
 abbrev pub EndsClosed : List ℕ → List ℕ → Type 0
 EndsClosed b ps = (byte_at b (slice_index ps (length ps - 1)) ≡ 93) ⊎ (byte_at b (slice_index ps (length ps - 1)) ≡ 125)
 
--- ps are the positions of b, which is no fault as a whole; closed says that the last position closes
-pub record IsOnRoute (closed : Bool) (b ps : List ℕ) : Type 0 where
+-- ps are the positions of b, which ends at a place and is no fault as a whole; closed says that the last position closes
+pub record IsOnRoute (closed : Bool) (place : ℕ) (b ps : List ℕ) : Type 0 where
+  pub end : place ≡ length b
   pub positions : ps ≡ positions b
   pub whole : input_fault b ≡ None
   pub closes : IsTrue closed → EndsClosed b ps

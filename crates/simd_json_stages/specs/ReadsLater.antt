@@ -3,7 +3,7 @@ use Rattle.std.proofs.Common.{◌≤◌, ℕ, List, arith}
 use Rattle.simd_json_stages.specs.EscapesAhead.{AreAhead}
 use Rattle.simd_json_stages.specs.Inputs.{IsLent, Reads}
 use Rattle.simd_json_stages.specs.declared.stage2.escapes.Escapes.{Escapes}
-use Rattle.simd_json_stages.specs.declared.stage2.input.Input.{Input}
+use Rattle.simd_json_stages.specs.declared.stage2.input.Unread.{Unread}
 
 pub ahead-later : (b : List ℕ) (e : Escapes) (at : ℕ) → AreAhead b e at → (later : ℕ) → at ≤ later → AreAhead b e later
 ahead-later b e at a later l =
@@ -16,7 +16,7 @@ ahead-later b e at a later l =
       plain = λ j f t. a.plain j (omega arith) t;
     }
 
-pub reads-kept : (b : List ℕ) (t : Input) (i j : ℕ) → Reads b t i → i ≤ j → Reads b t j
+pub reads-kept : (b : List ℕ) (t : Unread) (i j : ℕ) → Reads b t i → i ≤ j → Reads b t j
 reads-kept b t i j h l =
     record {
       fits = h.fits;

@@ -6,29 +6,30 @@
 //!
 //! ```text
 //! build_tape           chooses one of three copies of the machine by the input
-//! └ build_copy         joins the input and the sink to a builder
+//! └ build_copy         joins the input and the list to a builder
 //!   └ build            the root's first token, and then a loop round the next three
 //!     ├ next_member    closes containers, up to the next member or the end of the root
 //!     ├ elements       reads elements of an array   ┐ up to a container that opens
 //!     └ members        reads members of an object   ┘ in it, or to its end
 //!       ├ read_key     a key and its colon, in an object
 //!       ├ read_value   a scalar, or the opening bracket of a container
-//!       │ └ push_string, push_scalar, push_number, push_header    append a node to the sink
-//!       └ after_member a comma, or the closing bracket: set_counts in the sink
+//!       │ └ push_string, push_scalar, push_number, push_header    append a node
+//!       └ after_member a comma, or the closing bracket: set_counts of its header
 //! ```
 //!
 //! `build_spans` does the same for a sink that gets the index where each text begins (`spans`).
 //!
 //! Beside `machine`, `progress` holds how far it is, `stack` the open containers, `builder` what it
-//! reads and writes: an `input`, and the sink of `nodes`. `scalar` reads the values of one node,
-//! and `fault` is how it rejects a token.
+//! reads and writes: an `input` and a list of nodes. `scalar` reads the values of one node, and
+//! `fault` is how it rejects a token.
 //!
-//! Where it differs from simdjson: nodes go to a sink of the caller's choice, not to words of a
-//! tape; strings are not copied into a buffer, but shared with the input, and decoded in place if
+//! Where it differs from simdjson: nodes go to a list, or to a sink of the caller's choice, not to
+//! words of a tape; strings are not copied into a buffer, but shared with the input, and decoded in place if
 //! they have escapes; a string that ends before the next backslash is not read at all, since its
 //! closing quote is the last one before the next structural index; a number with a fraction or an
 //! exponent is kept as its literal.
-ghost use Rattle.std.specs.Prelude.{◌≡◌, ◌≤◌, [], length, map, min, max, Err, OnOk, IfErr};
+ghost use Rattle.std.specs.Prelude.{◌≡◌, ◌≤◌, [], length, map, min, max, Err, OnOk};
+ghost use Rattle.std.specs.Prelude.{IfErr, vec_capacity};
 ghost use Rattle.std.specs.List.{All};
 ghost use Rattle.simd_json_parts.specs.Descent.{descent};
 ghost use Rattle.simd_json_stages.specs.Building.{IsWritten};
@@ -43,20 +44,22 @@ mod escapes;
 mod fault;
 mod input;
 mod machine;
-mod nodes;
+mod noted;
 mod progress;
 mod scalar;
 mod spans;
 mod stack;
 
+pub use builder::FromNode;
 pub use input::Original;
 use machine::{ANY, CLOSED, PLAIN, build_copy};
-pub use nodes::{ListSink, NodeSink};
+pub use noted::Noted;
 pub use scalar::{is_valid_false_atom, is_valid_null_atom, is_valid_true_atom};
 use simd_json_parts::error::Result;
 pub use spans::SpanSink;
 use spans::build_spans_copy;
 pub use stack::{Container, StackState};
+use std::alloc::Allocator;
 
 /// Returns how many nodes are enough for a tape of an input with `positions` structural indexes, if
 /// at most `max_depth` containers are open at a time: one for each container that may be open, and
@@ -81,50 +84,50 @@ pub struct Scanned<'s> {
     pub escape_blocks: &'s [u32],
 }
 
-/// Writes the nodes of an input to an empty sink, which has room for as many as [`nodes_enough`]
-/// returns for it. `stack` or else `few` is at least as long as `max_depth` or as the list of
-/// structural indexes, whichever is less; what they hold does not matter.
+/// Writes the nodes of an input to an empty list, which has capacity for as many as
+/// [`nodes_enough`] returns for it. `stack` or else `few` is at least as long as `max_depth` or as
+/// the list of structural indexes, whichever is less; what they hold does not matter.
 ///
 /// The nodes are those of the document that the input is, in preorder. An error is that of the
 /// first token that is rejected, with its index and character; it is never one of the whole input
-/// and never `OutOfMemory`. After an error the sink holds the nodes that were written before it.
+/// and never `OutOfMemory`. After an error the list holds the nodes that were written before it.
 ///
-/// `K` names the bytes of the input as they were given, for contracts (see [`Original`]). The
-/// function that makes the sink is generic over it, and is called with
+/// The list holds each [`Node`](simd_json_parts::node::Node), or a form of the caller's own that is
+/// made of it (see [`FromNode`]). `K` names the bytes of the input as they were given, for contracts
+/// (see [`Original`]). A function that is generic over it is called with
 /// [`Brand`](std::marker::Brand): a proof can't pick the bytes at a call with a bound that names a
 /// lifetime.
 #[inline(always)]
-pub fn build_tape<'de, K: Original, S: NodeSink<'de>>(
+pub fn build_tape<'de, K: Original, N: FromNode<'de>, A: Allocator>(
     input: &'de mut [u8],
     scanned: Scanned<'_>,
     stack: &mut [StackState],
     few: &mut [StackState],
-    sink: &mut S,
+    list: &mut Vec<N, A>,
     max_depth: usize,
 ) -> Result<()>
     requires input { input.old ≡ K.bytes }
     requires scanned { IsScanOf K.bytes scanned }
     requires room { nodes_enough (length scanned.structural_indexes.now) max_depth
-        ≤ S.node_room sink.old }
+        ≤ vec_capacity list.old }
     requires stack { min (length scanned.structural_indexes.now) max_depth
         ≤ max (length stack.old) (length few.old) }
-    requires empty { S.held_nodes sink.old ≡ [] }
-    ensures room { S.node_room sink.new ≡ S.node_room sink.old }
-    ensures lender { S.lender sink.new ≡ S.lender sink.old }
+    requires empty { list.old.items ≡ [] }
+    ensures room { vec_capacity list.new ≡ vec_capacity list.old }
     ensures few { OnOk result
-        (length (S.held_nodes sink.new) ≤ length scanned.entry.structural_indexes.now) }
-    ensures built { OnOk result (IsWritten K.bytes max_depth (S.held_nodes sink.new)) }
+        (length (map N.item list.new.items) ≤ length scanned.entry.structural_indexes.now) }
+    ensures built { OnOk result (IsWritten K.bytes max_depth (map N.item list.new.items)) }
     ensures rejected { IfErr result (λ e. IsTokenFault e × (descent K.bytes max_depth ≡ Err e)) }
 {
     let depth = scanned.structural_indexes.len().min(max_depth);
     let stack = stack_for(stack, few, depth);
     let copy = copy_for(input, scanned);
     let built = if copy == PLAIN {
-        build_copy::<K, S, PLAIN>(input, scanned, stack, sink, max_depth)
+        build_copy::<K, N, A, PLAIN>(input, scanned, stack, list, max_depth)
     } else if copy == CLOSED {
-        build_copy::<K, S, CLOSED>(input, scanned, stack, sink, max_depth)
+        build_copy::<K, N, A, CLOSED>(input, scanned, stack, list, max_depth)
     } else {
-        build_copy::<K, S, ANY>(input, scanned, stack, sink, max_depth)
+        build_copy::<K, N, A, ANY>(input, scanned, stack, list, max_depth)
     };
     match built {
         Ok(()) => Ok(()),
@@ -132,8 +135,8 @@ pub fn build_tape<'de, K: Original, S: NodeSink<'de>>(
     }
 }
 
-/// Writes the nodes of an input to an empty sink that keeps no reference to it, as [`build_tape`]
-/// does: the same nodes, or the same error, over the same lists.
+/// Writes the nodes of an input to an empty sink, which has room for as many, as [`build_tape`]
+/// writes them to a list: the same nodes, or the same error, over the same lists.
 ///
 /// In any case the text of each node that was written lies in the input afterwards, at the byte
 /// index that the sink was given with it. Other bytes of the input are unspecified.

@@ -3,7 +3,7 @@ ghost use Rattle.std.specs.Prelude.{◌≡◌};
 use simd_json_parts::error::Result;
 use simd_json_parts::node::Node;
 use simd_json_stages::stage1::{BlockStage1Parse, Stage1Parse};
-use simd_json_stages::stage2::{ListSink, Original, Scanned, StackState, build_tape, nodes_enough};
+use simd_json_stages::stage2::{Original, Scanned, StackState, build_tape, nodes_enough};
 use std::alloc::Global;
 use std::marker::Brand;
 use std::test::Fail;
@@ -36,16 +36,8 @@ fn list_of<'de, K: Original>(
     stack.resize(found.positions.min(max_depth), StackState::EMPTY)?;
     let mut nodes = Vec::new(alloc);
     nodes.reserve_exact(nodes_enough(found.positions, max_depth))?;
-    let mut sink = ListSink { list: &mut nodes };
     let stack = stack.as_mut_slice();
-    build_tape::<K, ListSink<'_, 'de, Global>>(
-        input,
-        scanned,
-        stack,
-        &mut [],
-        &mut sink,
-        max_depth,
-    )?;
+    build_tape::<K, Node<'de>, Global>(input, scanned, stack, &mut [], &mut nodes, max_depth)?;
     Ok(nodes)
 }
 

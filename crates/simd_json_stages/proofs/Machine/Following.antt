@@ -75,7 +75,7 @@ module _ {b ps : List ℕ} {p q : Progress} (e : ps ≡ positions b) where
 
 module _ (b : List ℕ) (r : Route) (m : Machine) (reads : ℕ → Type 0) (capacity : ℕ) (nodes : List Item) (p : Progress) where
   -- at the first token of a member
-  pub at-member : (kind : FaultKind) → IsOnRoute r.ends_closed b r.indexes.now
+  pub at-member : (kind : FaultKind) → IsOnRoute r.ends_closed r.end b r.indexes.now
       → HasCapacity r.indexes.now r.max_depth m.stack.now capacity → IsBefore b r.indexes.now reads (length nodes) p
       → p.depth ≤ r.max_depth → 0 < p.depth → AtMember b r.indexes.now r.max_depth kind m.stack.now nodes p
       → IsAtMemberOf b r m reads capacity nodes p.container p kind
@@ -98,7 +98,7 @@ module _ (b : List ℕ) (r : Route) (m : Machine) (reads : ℕ → Type 0) (capa
 
 -- At the first token all of the input can be read, and no node is written.
 pub at-first : {b : List ℕ} {r : Route} {m : Machine} {reads : ℕ → Type 0} {capacity : ℕ} {nodes : List Item} {x : ℕ} → IsKept reads
-    → IsOnRoute r.ends_closed b r.indexes.now → HasCapacity r.indexes.now r.max_depth m.stack.now capacity → nodes ≡ []
+    → IsOnRoute r.ends_closed r.end b r.indexes.now → HasCapacity r.indexes.now r.max_depth m.stack.now capacity → nodes ≡ []
     → reads 0 → x ≡ byte_at b (get_or r.indexes.now 0 0) → AtFirst b r m reads capacity nodes
     (record { read = 1; at = get_or r.indexes.now 0 0; byte = x; depth = 0; container = Array; len = 0 })
 at-first kept route capacities empty input byte =

@@ -11,7 +11,7 @@ use Rattle.simd_json_stages.specs.EscapeBlocks.{blocks_in, backslash_blocks}
 use Rattle.simd_json_stages.specs.EscapesAhead.{AreAhead, PlainFrom}
 use Rattle.simd_json_stages.specs.Inputs.{IsLent, IsStringBefore, Reads}
 use Rattle.simd_json_stages.specs.declared.stage2.escapes.Escapes.{Escapes}
-use Rattle.simd_json_stages.specs.declared.stage2.input.Input.{Input}
+use Rattle.simd_json_stages.specs.declared.stage2.input.Unread.{Unread}
 use Rattle.simd_json_stages.proofs.Machine.BetweenBlocks.{plain-to_first}
 use Rattle.simd_json_stages.specs.ReadsLater.{ahead-later}
 
@@ -78,7 +78,7 @@ shared-slice b shared i next k string e is =
     ∙ ap (λ n. take n (drop 1 (drop i b))) size
 
 -- what is left after a string can be read
-pub reads-after : (b : List ℕ) (t t' : Input) (i next end : ℕ) → Reads b t i → IsStringBefore b i next → IsFalse t.is_plain
+pub reads-after : (b : List ℕ) (t t' : Unread) (i next end : ℕ) → Reads b t i → IsStringBefore b i next → IsFalse t.is_plain
     → t'.is_plain ≡ t.is_plain → t'.escapes ≡ t.escapes → t'.end ≡ t.end
     → t'.at ≡ end → end ≡ suc (closing_quote b i) → t'.rest.now ≡ drop end b → Reads b t' (suc (closing_quote b i))
 reads-after b t t' i next end reads string lent kind escapes whole at is rest =

@@ -3,9 +3,10 @@
 //! The machine names a text by its place in the input, and the builder shares it and hands it on:
 //! so how strings and numbers are kept is the builder's choice alone.
 ghost use Rattle.std.specs.Prelude.{◌≡◌, ◌<◌, ◌≤◌, ◌+◌, ◌^◌, true, false, ℕ, List, [], ◌∷◌};
-ghost use Rattle.std.specs.Prelude.{◌++◌, length, get_or, slice_set, take, drop, Err, MatchResult};
+ghost use Rattle.std.specs.Prelude.{◌++◌, length, map, get_or, slice_set, take, drop, Err};
+ghost use Rattle.std.specs.Prelude.{MatchResult, vec_capacity};
 ghost use Rattle.simd_json_parts.specs.Bytes.{byte_at};
-ghost use Rattle.simd_json_parts.specs.Nodes.{Item, static_item, decimal_item};
+ghost use Rattle.simd_json_parts.specs.Nodes.{Item, item_of, static_item, decimal_item};
 ghost use Rattle.simd_json_parts.specs.StringAt.{string_at, escape_fault};
 ghost use Rattle.simd_json_stages.specs.Building.{header_of, is_header};
 ghost use Rattle.simd_json_stages.specs.Inputs.{HasBytes, HasInteger, HasQuoted, HasString};
@@ -14,30 +15,31 @@ ghost use Rattle.simd_json_stages.specs.Placed.{is_long};
 ghost use Rattle.simd_json_stages.specs.Put.{IsStringPut};
 ghost use Rattle.simd_json_stages.specs.ReadsLater.{reads-kept};
 
-use super::input::Input;
-use super::nodes::NodeSink;
+use super::input::Unread;
 use super::stack::Container;
-use simd_json_parts::node::StaticNode;
+use simd_json_parts::node::{Node, StaticNode};
 use simd_json_scalars::stringparse::BadEscape;
+use std::alloc::Allocator;
 use std::result::Result;
 
 // An input that is read from the front, and the nodes that were made of it. All indexes are of
-// bytes of the whole input. The ghost items but `reads` are those of `NodeSink`.
+// bytes of the whole input. `TapeBuilder` keeps the nodes, and `SpanBuilder` hands them to a sink.
 pub(crate) trait Builder {
     // All bytes of an input from an index on can be read.
     ghost reads: { List ℕ → Self → ℕ → Type 0 };
 
+    // The nodes that were appended, in order.
     ghost held_nodes: { Self → List Item };
 
+    // How many nodes it can hold in all.
     ghost node_room: { Self → ℕ };
 
+    // The type of the names of what it borrows.
     ghost Lender: { Type 0 };
 
+    // What it borrows, by name. No call changes that, so that after a parse the owner of the
+    // borrowed memory knows what was written there.
     ghost lender: { Self → Self.Lender };
-
-    // The index of the end of the input.
-    fn end(&self) -> usize
-        ensures { (b : List ℕ) (i : ℕ) → reads b self.now i → result ≡ length b };
 
     // The byte at index i.
     fn byte(&self, i: usize) -> u8
@@ -117,32 +119,51 @@ pub(crate) trait Builder {
     ghost later: { (b : List ℕ) (s : Self) (i j : ℕ) → reads b s i → i ≤ j → reads b s j };
 }
 
-// A sink of the caller's choice, whose strings and numbers share the input.
-#[derive(Drop)]
-pub(super) struct Sharing<'n, 'i, 'm, 'de, S> {
-    pub(super) input: &'i mut Input<'m, 'de>,
-    pub(super) nodes: &'n mut S,
+/// What a list of nodes holds: a [`Node`], or a form of the caller's own that is made of one.
+pub trait FromNode<'de>: Copy {
+    // The node that it was made of.
+    ghost item: { Self → Item };
+
+    /// Makes it of a node.
+    fn from_node(node: Node<'de>) -> Self
+        ensures { item result ≡ item_of node.entry };
 }
 
-impl<'n, 'i, 'm, 'de, S: NodeSink<'de>> Builder for Sharing<'n, 'i, 'm, 'de, S> {
-    ghost reads = { λ b s i. Reads b s.input.now i };
-
-    ghost held_nodes = { λ s. S.held_nodes s.nodes.now };
-
-    ghost node_room = { λ s. S.node_room s.nodes.now };
-
-    ghost Lender = { ℕ × S.Lender };
-
-    ghost lender = { λ s. (s.nodes.ghost_name, S.lender s.nodes.now) };
+impl<'de> FromNode<'de> for Node<'de> {
+    ghost item = { item_of };
 
     #[inline(always)]
-    fn end(&self) -> usize {
-        self.input.end
+    fn from_node(node: Node<'de>) -> Node<'de> {
+        node
     }
+}
+
+// The tape that is built: a list of nodes, with room for as many as it has capacity for, and the
+// input, which strings and numbers share. No call allocates.
+#[derive(Drop)]
+pub(super) struct TapeBuilder<'n, 'i, 'm, 'de, N, A: Allocator> {
+    pub(super) input: &'i mut Unread<'m, 'de>,
+    pub(super) list: &'n mut Vec<N, A>,
+}
+
+impl<'n, 'i, 'm, 'de, N: FromNode<'de>, A: Allocator> Builder
+    for TapeBuilder<'n, 'i, 'm, 'de, N, A> {
+    ghost reads = { λ b s i. Reads b s.input.now i };
+
+    ghost held_nodes = { λ s. map N.item s.list.now.items };
+
+    ghost node_room = { λ s. vec_capacity s.list.now };
+
+    ghost Lender = { ℕ };
+
+    ghost lender = { λ s. s.list.ghost_name };
 
     #[inline(always)]
     fn byte(&self, i: usize) -> u8 {
-        self.input.byte(i)
+        if self.input.is_plain {
+            return self.input.shared[i];
+        }
+        self.input.rest[i - self.input.at]
     }
 
     #[inline(always)]
@@ -152,18 +173,19 @@ impl<'n, 'i, 'm, 'de, S: NodeSink<'de>> Builder for Sharing<'n, 'i, 'm, 'de, S> 
 
     #[inline(always)]
     fn len(&self) -> usize {
-        self.nodes.len()
+        self.list.len()
     }
 
     #[inline(always)]
     fn push_string(&mut self, at: usize, end: usize) -> Result<(), BadEscape> {
         let may_have_escape = self.input.may_have_escape(at, end);
         if !may_have_escape {
-            self.nodes.push_string(self.input.share_string(at, end));
+            let string = self.input.share_string(at, end);
+            self.list.push_reserved(N::from_node(Node::String(string)));
             return Ok(());
         }
         match self.input.parse_string(at) {
-            Ok(string) => self.nodes.push_string(string),
+            Ok(string) => self.list.push_reserved(N::from_node(Node::String(string))),
             Err(bad) => return Err(bad),
         }
         Ok(())
@@ -171,27 +193,30 @@ impl<'n, 'i, 'm, 'de, S: NodeSink<'de>> Builder for Sharing<'n, 'i, 'm, 'de, S> 
 
     #[inline(always)]
     fn push_decimal(&mut self, at: usize, len: usize) {
-        self.nodes.push_decimal(self.input.share(at, len));
+        let literal = self.input.share(at, len);
+        self.list
+            .push_reserved(N::from_node(Node::Decimal(literal)));
     }
 
     #[inline(always)]
     fn push_integer(&mut self, at: usize, len: usize, value: StaticNode) {
-        self.nodes.push_static(value);
+        self.list.push_reserved(N::from_node(Node::Static(value)));
     }
 
     #[inline(always)]
     fn push_static(&mut self, value: StaticNode) {
-        self.nodes.push_static(value);
+        self.list.push_reserved(N::from_node(Node::Static(value)));
     }
 
     #[inline(always)]
     fn push_header(&mut self, container: Container) {
-        self.nodes.push_header(container);
+        self.list
+            .push_reserved(N::from_node(container.header(0, 0)));
     }
 
     #[inline(always)]
     fn set_counts(&mut self, header: usize, container: Container, len: usize, count: usize) {
-        self.nodes.set_counts(header, container, len, count);
+        self.list[header] = N::from_node(container.header(len, count));
     }
 
     ghost later = { λ b s i j. reads-kept b s.input.now i j };

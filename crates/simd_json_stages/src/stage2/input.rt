@@ -39,7 +39,7 @@ impl Original for Brand {
 
 // The input, or what is left of it. All indexes are of bytes of the whole input.
 #[derive(Drop)]
-pub(crate) struct Input<'m, 'de> {
+pub(crate) struct Unread<'m, 'de> {
     // whether the input is borrowed whole: then it has no backslash
     pub(crate) is_plain: bool,
     // the whole input if `is_plain`, else empty
@@ -54,13 +54,13 @@ pub(crate) struct Input<'m, 'de> {
     pub(crate) end: usize,
 }
 
-impl<'m, 'de> Input<'m, 'de> {
+impl<'m, 'de> Unread<'m, 'de> {
     // Borrows whole an input without a backslash.
     #[inline(always)]
-    pub(crate) fn plain(input: &'de [u8]) -> Input<'static, 'de>
+    pub(crate) fn plain(input: &'de [u8]) -> Unread<'static, 'de>
         ensures { (b : List ℕ) → input.now ≡ b → PlainFrom b 0 (length b) → Reads b result 0 }
     {
-        Input {
+        Unread {
             is_plain: true,
             shared: input,
             rest: &mut [],
@@ -72,12 +72,12 @@ impl<'m, 'de> Input<'m, 'de> {
 
     // Borrows an input for writing. `escape_blocks` are the numbers of its blocks with a backslash.
     #[inline(always)]
-    pub(crate) fn with_escapes(input: &'de mut [u8], escape_blocks: &'m [u32]) -> Input<'m, 'de>
+    pub(crate) fn with_escapes(input: &'de mut [u8], escape_blocks: &'m [u32]) -> Unread<'m, 'de>
         ensures { (b : List ℕ) → input.old ≡ b → escape_blocks.now ≡ backslash_blocks b
             → Reads b result 0 }
     {
         let end = input.len();
-        Input {
+        Unread {
             is_plain: false,
             shared: &[],
             rest: input,
@@ -85,18 +85,6 @@ impl<'m, 'de> Input<'m, 'de> {
             escapes: Escapes::new(escape_blocks),
             end,
         }
-    }
-
-    // The byte at index i, which was not split off.
-    #[inline(always)]
-    pub(crate) fn byte(&self, i: usize) -> u8
-        requires { HasBytes (λ b. Reads b self.now) i 1 }
-        ensures { (b : List ℕ) → Reads b self.now i → result ≡ byte_at b i }
-    {
-        if self.is_plain {
-            return self.shared[i];
-        }
-        self.rest[i - self.at]
     }
 
     // All bytes from index i on.

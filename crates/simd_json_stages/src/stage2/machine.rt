@@ -11,7 +11,8 @@
 //!               the closing bracket of the container              →  after a value
 //!               the end of the tokens, in no container            →  done
 //! ```
-ghost use Rattle.std.specs.Prelude.{◌≡◌, ◌<◌, ◌≤◌, ◌+◌, [], length, IfOk, IfErr};
+ghost use Rattle.std.specs.Prelude.{◌≡◌, ◌<◌, ◌≤◌, ◌+◌, [], length, map, IfOk, IfErr};
+ghost use Rattle.std.specs.Prelude.{vec_capacity};
 ghost use Rattle.simd_json_stages.specs.Members.{AfterMember, AtElement, AtFirst, AtOpening};
 ghost use Rattle.simd_json_stages.specs.Members.{AtPair, HasCapacity, HasCome, HasFollowed};
 ghost use Rattle.simd_json_stages.specs.Members.{IsAtMember, IsFault, IsFrom, IsTape};
@@ -21,13 +22,13 @@ ghost use Rattle.simd_json_stages.specs.Put.{SameSink};
 ghost use Rattle.simd_json_stages.specs.Scans.{IsScanOf};
 
 use super::Scanned;
-use super::builder::{Builder, Sharing};
+use super::builder::{Builder, FromNode, TapeBuilder};
 use super::fault::{Fault, FaultKind};
-use super::input::{Input, Original};
-use super::nodes::NodeSink;
+use super::input::{Original, Unread};
 use super::progress::{Following, NextMember, Progress, Route, Step};
 use super::scalar::{push_scalar, push_string};
 use super::stack::{Container, StackState, close};
+use std::alloc::Allocator;
 use std::result::Result;
 
 // What the machine changes besides the builder. All functions that take the machine are inlined, so
@@ -311,41 +312,43 @@ pub(super) const CLOSED: usize = 1;
 // Any other input, such as a scalar by itself.
 pub(super) const ANY: usize = 2;
 
-// Appends the nodes of the tokens at the structural indexes to a sink, from the root's first token
+// Appends the nodes of the tokens at the structural indexes to a list, from the root's first token
 // on, by the copy of the machine with number `COPY`.
 #[inline(always)]
-pub(super) fn build_copy<'de, K: Original, S: NodeSink<'de>, const COPY: usize>(
+pub(super) fn build_copy<'de, K: Original, N: FromNode<'de>, A: Allocator, const COPY: usize>(
     input: &'de mut [u8],
     scanned: Scanned<'_>,
     stack: &mut [StackState],
-    nodes: &mut S,
+    list: &mut Vec<N, A>,
     max_depth: usize,
 ) -> Result<(), Fault>
     requires input { input.old ≡ K.bytes }
     requires scanned { IsScanOf K.bytes scanned }
     requires copy { IsForCopy COPY K.bytes scanned.structural_indexes.now }
     requires capacities { HasCapacity scanned.structural_indexes.now max_depth stack.old
-        (S.node_room nodes.old) }
-    requires empty { S.held_nodes nodes.old ≡ [] }
-    ensures sink { SameSink S.node_room S.lender nodes.old nodes.new }
+        (vec_capacity list.old) }
+    requires empty { list.old.items ≡ [] }
+    ensures room { vec_capacity list.new ≡ vec_capacity list.old }
     ensures tape { IsTape K.bytes scanned.entry.structural_indexes.now max_depth
-        (S.held_nodes nodes.new) result }
+        (map N.item list.new.items) result }
 {
+    let end = input.len();
     let mut input = if COPY == PLAIN {
-        Input::plain(input)
+        Unread::plain(input)
     } else {
-        Input::with_escapes(input, scanned.escape_blocks)
+        Unread::with_escapes(input, scanned.escape_blocks)
     };
-    let mut sharing = Sharing {
+    let mut builder = TapeBuilder {
         input: &mut input,
-        nodes,
+        list,
     };
     let route = Route {
         indexes: scanned.structural_indexes,
+        end,
         ends_closed: COPY != ANY,
         max_depth,
     };
-    build::<K, Sharing<'_, '_, '_, 'de, S>, COPY>(&mut sharing, route, stack)
+    build::<K, TapeBuilder<'_, '_, '_, 'de, N, A>, COPY>(&mut builder, route, stack)
 }
 
 // Appends the nodes of all tokens, from the root's first token on.
@@ -355,7 +358,7 @@ pub(super) fn build<K: Original, B: Builder, const COPY: usize>(
     route: Route,
     stack: &mut [StackState],
 ) -> Result<(), Fault>
-    requires route { IsOnRoute route.ends_closed K.bytes route.indexes.now }
+    requires route { IsOnRoute route.ends_closed route.end K.bytes route.indexes.now }
     requires capacities { HasCapacity route.indexes.now route.max_depth stack.old
         (B.node_room builder.old) }
     requires empty { B.held_nodes builder.old ≡ [] }

@@ -22,6 +22,8 @@ use std::result::Result;
 pub(crate) struct Route<'m> {
     // the structural indexes: byte indexes into the input, ascending
     pub(crate) indexes: &'m [u32],
+    // the index of the end of the input
+    pub(crate) end: usize,
     // whether the token at the last of them is known to be a closing bracket
     pub(crate) ends_closed: bool,
     // how many containers may be open at a time
@@ -31,14 +33,14 @@ pub(crate) struct Route<'m> {
 impl Route<'_> {
     // The structural index `number` in the list, or the end of the input if there are fewer.
     #[inline(always)]
-    pub(super) fn position_or_end(self, number: usize, end: usize) -> usize
+    pub(super) fn position_or_end(self, number: usize) -> usize
         requires { IsTrue self.ends_closed → number < length self.indexes.now }
-        ensures { result ≡ get_or self.entry.indexes.now number end }
+        ensures { result ≡ get_or self.entry.indexes.now number self.entry.end }
     {
         if self.ends_closed || number < self.indexes.len() {
             self.indexes[number] as usize
         } else {
-            end
+            self.end
         }
     }
 }

@@ -85,7 +85,7 @@ pub(super) fn push_string<K: Original, B: Builder>(
         (B.reads K.bytes builder.new)) }
     ensures rejected { IfErr result (IsBadString K.bytes p.at) }
 {
-    let next = route.position_or_end(p.read, builder.end());
+    let next = route.position_or_end(p.read);
     match builder.push_string(p.at, next) {
         Ok(()) => Ok(()),
         Err(bad) => Err(bad_escape(p.at, bad)),

@@ -34,18 +34,22 @@ use simd_json_parts::node::StaticNode;
 use simd_json_scalars::stringparse::{BadEscape, decode_str};
 use std::result::Result;
 
-/// A destination for the nodes of a document, as a [`NodeSink`](super::NodeSink), but one that
-/// keeps no reference to their texts: it is told where each begins in the input.
+/// A destination for the nodes of a document, in a form of the caller's own. It gets each text and
+/// the byte index in the input where that begins, and keeps no reference to it.
 ///
-/// After the parse the text lies there, so the owner of the input can borrow it from there: a
-/// string with its escapes decoded, or the literal of a number with a fraction or an exponent, or
-/// of an integer that 64 bits do not hold. The calls come in the same order as those of a
-/// `NodeSink`.
+/// The second stage appends each node by the call for its kind, in preorder: the header of a
+/// container, then its members; of a member of an object the key, which is a string, and then its
+/// value. When a container that is not empty closes, it sets the counts of its header.
+///
+/// After the parse each text lies in the input at that index, so the owner of the input can borrow
+/// it from there: a string with its escapes decoded, or the literal of a number with a fraction or
+/// an exponent, or of an integer that needs 128 bits.
 ///
 /// The ghost items say for contracts what a sink holds: `placed` is the list of the nodes that were
-/// appended, each with its text and where that begins; the others are as those of `NodeSink`. A sink
-/// that hands all nodes on has the other's items, as this one, which keeps the place of the longest
-/// string:
+/// appended, each with its text and where that begins, `node_room` how many it can hold in all, and
+/// `lender` names what it borrows. A sink with nodes of another form needs a proof that ties them
+/// to `placed`. One that hands all nodes on to another sink has the other's items, as this one,
+/// which keeps the place of the longest string:
 ///
 /// ```
 /// use simd_json_parts::node::StaticNode;
@@ -74,8 +78,8 @@ use std::result::Result;
 ///     fn push_decimal(&mut self, at: usize, literal: &str) {
 ///         self.nodes.push_decimal(at, literal);
 ///     }
-///     fn push_long(&mut self, at: usize, literal: &str, value: StaticNode) {
-///         self.nodes.push_long(at, literal, value);
+///     fn push_wide(&mut self, at: usize, literal: &str, value: StaticNode) {
+///         self.nodes.push_wide(at, literal, value);
 ///     }
 ///     fn push_static(&mut self, value: StaticNode) {
 ///         self.nodes.push_static(value);
@@ -101,7 +105,8 @@ pub trait SpanSink {
     // The type of the names of what it borrows.
     ghost Lender: { Type 0 };
 
-    // What it borrows, by name.
+    // What it borrows, by name. No call changes that, so that after a parse the owner of the
+    // borrowed memory knows what was written there.
     ghost lender: { Self → Self.Lender };
 
     /// Returns how many nodes were appended.
@@ -126,7 +131,7 @@ pub trait SpanSink {
 
     /// Appends an integer that needs 128 bits: its literal, which begins at byte `at`, and its
     /// value.
-    fn push_long(&mut self, at: usize, literal: &str, value: StaticNode)
+    fn push_wide(&mut self, at: usize, literal: &str, value: StaticNode)
         requires room { length (placed self.old) < node_room self.old }
         requires long { is_long value ≡ true }
         requires literal { IsTextOf (static_item value) literal.now }
@@ -184,7 +189,8 @@ pub(super) fn build_spans_copy<K: Original, S: SpanSink, const COPY: usize>(
         (map (λ p. p.item) (S.placed nodes.new)) result }
     ensures texts { All (LiesIn input.new) (S.placed nodes.new) }
 {
-    let mut in_place = InPlace {
+    let end = input.len();
+    let mut in_place = SpanBuilder {
         bytes: input,
         at: 0,
         is_plain: COPY == PLAIN,
@@ -193,16 +199,17 @@ pub(super) fn build_spans_copy<K: Original, S: SpanSink, const COPY: usize>(
     };
     let route = Route {
         indexes: scanned.structural_indexes,
+        end,
         ends_closed: COPY != ANY,
         max_depth,
     };
-    build::<K, InPlace<'_, '_, '_, S>, COPY>(&mut in_place, route, stack)
+    build::<K, SpanBuilder<'_, '_, '_, S>, COPY>(&mut in_place, route, stack)
 }
 
 // The input, held whole, and a sink. Each text is handed on where it lies, and no byte before index
 // `at` is written any more.
 #[derive(Drop)]
-pub(super) struct InPlace<'n, 'm, 'b, S: SpanSink> {
+pub(super) struct SpanBuilder<'n, 'm, 'b, S: SpanSink> {
     pub(super) bytes: &'b mut [u8],
     // an index up to which all texts end; only proofs need it
     pub(super) at: usize,
@@ -214,7 +221,7 @@ pub(super) struct InPlace<'n, 'm, 'b, S: SpanSink> {
     ghost laid: { AreLaid bytes.now at (S.placed nodes.now) },
 }
 
-impl<'n, 'm, 'b, S: SpanSink> InPlace<'n, 'm, 'b, S> {
+impl<'n, 'm, 'b, S: SpanSink> SpanBuilder<'n, 'm, 'b, S> {
     // The walk along the backslashes, come to index `at`, and whether the string from there on may
     // have an escape before index `end`.
     #[inline(always)]
@@ -297,7 +304,7 @@ fn hand_long<S: SpanSink>(nodes: &mut S, bytes: &mut [u8], at: usize, len: usize
         ++ placed_at at (take len (drop at bytes.old)) (static_item value) ∷ [] }
 {
     let literal = unsafe { str::from_utf8_unchecked(&bytes[at..at + len]) };
-    nodes.push_long(at, literal, value);
+    nodes.push_wide(at, literal, value);
 }
 
 // Whether 64 bits do not hold an integer.
@@ -309,7 +316,7 @@ fn is_long(value: &StaticNode) -> bool
 
 // Decodes in place the string whose opening quote has index `at`, and appends it. Returns the index
 // after its closing quote, or its first invalid escape. One call: between the two the invariant of
-// `InPlace` does not hold.
+// `SpanBuilder` does not hold.
 #[inline(always)]
 fn decode_to<S: SpanSink>(nodes: &mut S, bytes: &mut [u8], at: usize) -> Result<usize, BadEscape>
     requires room { length (S.placed nodes.old) < S.node_room nodes.old }
@@ -333,7 +340,7 @@ fn decode_to<S: SpanSink>(nodes: &mut S, bytes: &mut [u8], at: usize) -> Result<
     }
 }
 
-impl<'n, 'm, 'b, S: SpanSink> Builder for InPlace<'n, 'm, 'b, S> {
+impl<'n, 'm, 'b, S: SpanSink> Builder for SpanBuilder<'n, 'm, 'b, S> {
     ghost reads = { λ b s i. ReadsInPlace b s.bytes.now s.at s.is_plain s.escapes i };
 
     ghost held_nodes = { λ s. map (λ p. p.item) (S.placed s.nodes.now) };
@@ -343,11 +350,6 @@ impl<'n, 'm, 'b, S: SpanSink> Builder for InPlace<'n, 'm, 'b, S> {
     ghost Lender = { ℕ × ℕ × S.Lender };
 
     ghost lender = { λ s. (s.bytes.ghost_name, s.nodes.ghost_name, S.lender s.nodes.now) };
-
-    #[inline(always)]
-    fn end(&self) -> usize {
-        self.bytes.len()
-    }
 
     #[inline(always)]
     fn byte(&self, i: usize) -> u8 {

@@ -15,7 +15,7 @@ use super::progress::Progress;
 use simd_json_parts::node::{Node, StaticNode};
 
 /// The two kinds of containers. The second stage passes it to the calls of a
-/// [`NodeSink`](super::NodeSink).
+/// [`SpanSink`](super::SpanSink).
 #[derive(Clone, Copy, Debug, Drop)]
 pub enum Container {
     /// An array, `[..]`: its members are its elements.

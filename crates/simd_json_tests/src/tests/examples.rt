@@ -3,7 +3,7 @@ ghost use Rattle.std.specs.Prelude.{length};
 
 use crate::tests::spans::empty_list;
 use crate::tests::tape_of;
-use simd_json::{Buffers, Container, ListSink, NodeSink, SpanSink, fill_spans, keep_spans};
+use simd_json::{Buffers, fill_spans, keep_spans};
 
 mod first_call {
     use simd_json::{Result, to_tape};
@@ -88,49 +88,7 @@ mod entry_points {
 }
 
 mod sinks {
-    use simd_json::{Container, NodeSink, SpanSink, StaticNode};
-
-    // Counts strings and keys, and hands all nodes on.
-    #[derive(Drop)]
-    pub(super) struct StringCounter<S> {
-        pub(super) strings: usize,
-        pub(super) nodes: S,
-    }
-
-    impl<'de, S: NodeSink<'de>> NodeSink<'de> for StringCounter<S> {
-        ghost held_nodes = { λ s. S.held_nodes s.nodes };
-
-        ghost node_room = { λ s. S.node_room s.nodes };
-
-        ghost Lender = { S.Lender };
-
-        ghost lender = { λ s. S.lender s.nodes };
-
-        fn push_string(&mut self, string: &'de str) {
-            self.strings = self.strings.saturating_add(1);
-            self.nodes.push_string(string);
-        }
-
-        fn push_decimal(&mut self, literal: &'de str) {
-            self.nodes.push_decimal(literal);
-        }
-
-        fn push_static(&mut self, value: StaticNode) {
-            self.nodes.push_static(value);
-        }
-
-        fn push_header(&mut self, container: Container) {
-            self.nodes.push_header(container);
-        }
-
-        fn set_counts(&mut self, header: usize, container: Container, len: usize, count: usize) {
-            self.nodes.set_counts(header, container, len, count);
-        }
-
-        fn len(&self) -> usize {
-            self.nodes.len()
-        }
-    }
+    use simd_json::{Container, SpanSink, StaticNode};
 
     // Keeps the place of the longest string, and hands all nodes on.
     #[derive(Drop)]
@@ -161,8 +119,8 @@ mod sinks {
             self.nodes.push_decimal(at, literal);
         }
 
-        fn push_long(&mut self, at: usize, literal: &str, value: StaticNode) {
-            self.nodes.push_long(at, literal, value);
+        fn push_wide(&mut self, at: usize, literal: &str, value: StaticNode) {
+            self.nodes.push_wide(at, literal, value);
         }
 
         fn push_static(&mut self, value: StaticNode) {
@@ -204,11 +162,11 @@ mod kept {
             Place { at, len }
         }
 
-        fn long(at: usize, len: usize, _value: StaticNode) -> Place {
+        fn wide_integer(at: usize, len: usize, _value: StaticNode) -> Place {
             Place { at, len }
         }
 
-        fn fixed(_value: StaticNode) -> Place {
+        fn short_scalar(_value: StaticNode) -> Place {
             Place { at: 0, len: 0 }
         }
 
@@ -269,21 +227,6 @@ fn entry_points_are_used_as_shown(rt: HostRuntime) {
     assert_eq!(rt; entry_points::count_in_place(&rt), Ok(30));
     assert_eq!(rt; entry_points::read_twice(&rt), Ok(3));
     assert_eq!(rt; entry_points::read_padded(&rt), Ok(1));
-}
-
-#[test]
-fn a_sink_counts_strings(rt: HostRuntime) {
-    let mut list = Vec::with_capacity(rt.alloc(), 3).expect(&rt, "there is memory");
-    let mut counter = sinks::StringCounter {
-        strings: 0,
-        nodes: ListSink { list: &mut list },
-    };
-    counter.push_header(Container::Object);
-    counter.push_string("name");
-    counter.push_string("tape");
-    counter.set_counts(0, Container::Object, 1, 2);
-    assert_eq!(rt; counter.strings, 2);
-    assert_eq!(rt; counter.len(), 3);
 }
 
 #[test]

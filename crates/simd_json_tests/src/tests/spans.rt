@@ -64,7 +64,7 @@ impl SpanSink for SpanList {
         self.put(Node::Decimal(""), at, literal.len());
     }
 
-    fn push_long(&mut self, at: usize, literal: &str, value: StaticNode) {
+    fn push_wide(&mut self, at: usize, literal: &str, value: StaticNode) {
         self.put(Node::Static(value), at, literal.len());
     }
 

@@ -1,19 +1,12 @@
-use Rattle.std.proofs.Common.{ap, refl, length, sym, subst, min, max, ◌≤◌}
+use Rattle.std.proofs.Common.{ap, length, sym, subst, min, max, ◌≤◌}
 use Rattle.simd_json_stages.proofs.Whole.{nodes-within}
 use Rattle.simd_json_check.proofs.check.count_nodes.Goals as goal
 
-pub build_tape-requires : goal.build_tape-requires
-build_tape-requires g c κs =
-    let b = g.K.Original.bytes in
+pub build_spans-requires-clause-room : goal.build_spans-requires-clause-room
+build_spans-requires-clause-room g c =
     let scan = c.requires.scanned in
-    let count = ap length scan.positions in
-    let stack = subst (λ n. min n c.args.max_depth ≤ max (length c.args.stack.now) 64) (sym count) c.requires.stack in (
-      (refl, tt),
-      (
-        c.requires.input,
-        (
-          scan,
-          (nodes-within b (length c.args.scanned.structural_indexes.now) c.args.max_depth scan.whole count, (stack, c.of.ensures)),
-        ),
-      ),
-    )
+    nodes-within g.K.Original.bytes (length c.args.scanned.structural_indexes.now) c.args.max_depth scan.whole (ap length scan.positions)
+
+pub build_spans-requires-clause-stack : goal.build_spans-requires-clause-stack
+build_spans-requires-clause-stack g c =
+    subst (λ n. min n c.args.max_depth ≤ max (length c.args.stack.now) 64) (sym (ap length c.requires.scanned.positions)) c.requires.stack

@@ -1,4 +1,4 @@
-use Rattle.std.proofs.Common.{◌≡◌, ◌∙◌, ap, eq-eqb, false, not, sym, true}
+use Rattle.std.proofs.Common.{◌≡◌, ◌∙◌, ap, arith, eq-eqb, false, length, not, sym, true}
 use Rattle.simd_json_stages.proofs.stage2.machine.build_copy.Goals as goal
 use Rattle.simd_json_stages.proofs.stage2.machine.build_copy.Goals.{then-this-eq-PLAIN, else-this-eq-PLAIN}
 
@@ -6,6 +6,7 @@ pub build-requires-clause-route : goal.build-requires-clause-route
 build-requires-clause-route g c =
     let copy = c.requires.copy in
     record {
+      end = omega (arith, ap length c.requires.input);
       positions = copy.positions;
       whole = copy.whole;
       closes = λ t. copy.closes (λ any. let clash : false ≡ true = sym (ap not (eq-eqb _ _ any)) ∙ t in cc);

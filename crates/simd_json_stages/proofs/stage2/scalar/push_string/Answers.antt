@@ -15,24 +15,24 @@ push_string-requires-clause-quoted g c =
     record {
       b = b;
       reads = c.requires.input;
-      string = string-before c.requires c.position_or_end-next.ensures (c.end.ensures b _ c.requires.input);
+      string = string-before c.requires c.position_or_end-next.ensures c.requires.on_route.end;
     }
 
 pub returns-in-Ok-clause-put : goal.returns-in-Ok-clause-put
 returns-in-Ok-clause-put g c =
     let b = g.K.Original.bytes in
-    c.in-Ok.ensures.put b c.requires.input (string-before c.requires c.position_or_end-next.ensures (c.end.ensures b _ c.requires.input))
+    c.in-Ok.ensures.put b c.requires.input (string-before c.requires c.position_or_end-next.ensures c.requires.on_route.end)
 
 pub bad_escape-requires : goal.bad_escape-requires
 bad_escape-requires g c =
     let b = g.K.Original.bytes in
-    let whole = c.end.ensures b _ c.requires.input in
+    let whole = c.requires.on_route.end in
     let is = c.in-Err.ensures.put b c.requires.input (string-before c.requires c.position_or_end-next.ensures whole) in
     omega (arith, whole, bad-within c.requires c.in-Err.bad.offset c.in-Err.bad.letter is)
 
 pub returns-in-Err-clause-rejected : goal.returns-in-Err-clause-rejected
 returns-in-Err-clause-rejected g c =
     let b = g.K.Original.bytes in
-    let whole = c.end.ensures b _ c.requires.input in
+    let whole = c.requires.on_route.end in
     c.in-Err.ensures.put b c.requires.input (string-before c.requires c.position_or_end-next.ensures whole) ∙ ap Err
     (sym c.bad_escape.ensures)

@@ -10,6 +10,7 @@ pub build-requires-clause-route : goal.build-requires-clause-route
 build-requires-clause-route g c =
     let copy = c.requires.copy in
     record {
+      end = omega (arith, ap length c.requires.input);
       positions = copy.positions;
       whole = copy.whole;
       closes = λ t. copy.closes (λ any. let clash : false ≡ true = sym (ap not (eq-eqb _ _ any)) ∙ t in cc);

@@ -1,7 +1,0 @@
-use Rattle.simd_json_parts.specs.Nodes.{static_item}
-use Rattle.simd_json_stages.specs.Placed.{placed_at}
-use Rattle.simd_json.specs.KeptSpans.{noting}
-use Rattle.simd_json.proofs.kept.KeptSinkSpanSink.push_long.Given as goal
-
-abbrev pub ghost-of : goal.ghost-of
-ghost-of g a = noting a.seen.now.0.now.note (placed_at a.seen.now.1 a.seen.now.2.now (static_item a.seen.now.3))

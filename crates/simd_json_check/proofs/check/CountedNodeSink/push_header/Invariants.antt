@@ -1,5 +1,0 @@
-use Rattle.simd_json_stages.specs.Building.{header_of}
-use Rattle.simd_json_check.proofs.check.CountedNodeSink.push_header.Given as goal
-
-abbrev pub ghost-put : goal.ghost-put
-ghost-put a = header_of a.seen.now 0 0
