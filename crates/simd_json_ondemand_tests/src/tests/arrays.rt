@@ -53,8 +53,7 @@ fn elements_come_in_order(rt: HostRuntime) {
 #[test]
 fn elements_are_values(rt: HostRuntime) {
     let mut index = Index::new(rt.alloc(), 0).expect(&rt, MEMORY);
-    let root = index
-        .find(b"[{\"a\":[1,2]},[3,[4,5]]]")
+    let root = Document::scan(&mut index, b"[{\"a\":[1,2]},[3,[4,5]]]")
         .expect(&rt, "it is a document")
         .as_value();
     let inner = root.get_idx(1).expect(&rt, "it has two elements");

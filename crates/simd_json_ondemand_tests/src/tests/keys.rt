@@ -100,8 +100,7 @@ fn values_are_found_by_key(rt: HostRuntime) {
         for spaces in [b"".as_slice(), b"                "] {
             let mut bytes = Vec::from_slice(rt.alloc(), input).expect(&rt, MEMORY);
             bytes.extend_from_slice(spaces).expect(&rt, MEMORY);
-            let root = index
-                .find(&bytes)
+            let root = Document::scan(&mut index, &bytes)
                 .expect(&rt, "it is a document")
                 .as_value();
             assert_eq!(rt; root.get(key).and_then(|v| v.as_u64()), *wanted, "{key:?}");
@@ -116,10 +115,12 @@ fn values_are_found_by_key(rt: HostRuntime) {
 #[test]
 fn a_search_goes_on_behind_what_it_found(rt: HostRuntime) {
     let mut index = Index::new(rt.alloc(), 0).expect(&rt, MEMORY);
-    let root = index
-        .find(b"{\"a\":1,\"b\":{\"a\":2},\"\\u0061\":3,\"c\":4}")
-        .expect(&rt, "it is a document")
-        .as_value();
+    let root = Document::scan(
+        &mut index,
+        b"{\"a\":1,\"b\":{\"a\":2},\"\\u0061\":3,\"c\":4}",
+    )
+    .expect(&rt, "it is a document")
+    .as_value();
     let mut members = root.as_object().expect(&rt, "it is an object");
     assert!(rt; members.find("z").is_none());
     assert_eq!(rt; members.find("a").and_then(|v| v.as_u64()), Some(1));
@@ -153,8 +154,7 @@ const ROUND: &[(usize, &str, Option<u64>, Option<&str>)] = &[
 #[test]
 fn a_search_goes_once_round(rt: HostRuntime) {
     let mut index = Index::new(rt.alloc(), 0).expect(&rt, MEMORY);
-    let root = index
-        .find(MEMBERS)
+    let root = Document::scan(&mut index, MEMBERS)
         .expect(&rt, "it is a document")
         .as_value();
     for (steps, key, wanted, next) in ROUND {

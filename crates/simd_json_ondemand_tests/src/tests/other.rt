@@ -46,8 +46,7 @@ fn literals_are_whole(rt: HostRuntime) {
         b"}",
         b"x",
     ] {
-        let value = index
-            .find(input)
+        let value = Document::scan(&mut index, input)
             .expect(&rt, "the strings are closed")
             .as_value();
         assert_eq!(rt; value.value_type(), None, "{input:?}");
@@ -66,13 +65,11 @@ fn literals_are_whole(rt: HostRuntime) {
 fn what_is_not_visited_is_not_checked(rt: HostRuntime) {
     let mut index = Index::new(rt.alloc(), 0).expect(&rt, MEMORY);
     let mut buffer = Vec::new(rt.alloc());
-    let value = index
-        .find(b"1 2")
+    let value = Document::scan(&mut index, b"1 2")
         .expect(&rt, "there are no strings")
         .as_value();
     assert_eq!(rt; value.as_u64(), Some(1));
-    let value = index
-        .find(b"\"\\q\"")
+    let value = Document::scan(&mut index, b"\"\\q\"")
         .expect(&rt, "it is closed")
         .as_value();
     assert_eq!(rt; value.value_type(), Some(ValueType::String));
@@ -105,8 +102,7 @@ fn literals_are_raw(rt: HostRuntime) {
         (b"-", None),
         (b",", None),
     ] {
-        let value = index
-            .find(input)
+        let value = Document::scan(&mut index, input)
             .expect(&rt, "the strings are closed")
             .as_value();
         assert_eq!(rt; value.raw(), raw, "{input:?}");
