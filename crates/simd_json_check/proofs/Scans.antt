@@ -1,5 +1,5 @@
 -- The structural indexes of an input: there are some, and they lie within it.
-use Rattle.std.proofs.Common.{◌≡◌, sym, subst, ℕ, ◌<◌, List, length, slice_index}
+use Rattle.std.proofs.Common.{sym, subst, ℕ, ◌<◌, List, length, slice_index}
 use Rattle.simd_json_stages.proofs.Scan.WholeFaults.{some-listed}
 use Rattle.simd_json_stages.proofs.Tokens.Places.{position-inside}
 use Rattle.simd_json_check.specs.Scanned.{IsWholeScan}

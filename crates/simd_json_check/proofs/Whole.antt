@@ -1,27 +1,21 @@
 -- What the test of a whole input finds is what a parse answers.
 use Rattle.std.proofs.Common.{◌≡◌, ◌∙◌, ap, sym, refl, subst, ◌<◌, ◌≤◌, ℕ, List, length, arith, cond}
-use Rattle.std.proofs.Common.{Bool, true, false, not, Some, None, Ok, Err, IsUtf8, nat_lt, ◌⊎◌, inl, inr, [], ◌==◌, is_some}
+use Rattle.std.proofs.Common.{Bool, true, false, not, Some, None, Ok, Err, nat_lt, ◌⊎◌, inl, inr, [], ◌==◌, is_some}
 use Rattle.std.proofs.Common.{Result, IfSome}
 use Rattle.std.specs.Result.{IsErrAnd, result_err}
 use Rattle.std.specs.Str.{is_utf8}
 use Rattle.std.proofs.lemmas.Bool.{cases_lt}
-use Rattle.std.proofs.lemmas.List.FromFn.{length-range_with_len}
-use Rattle.std.proofs.lemmas.List.Sums.{length-filter, count_by-le-length}
-use Rattle.simd_json_parts.proofs.Positions.CleanInputs.{IsClean-input}
 use Rattle.simd_json_parts.proofs.Positions.ScannedInputs.{too_large}
-use Rattle.simd_json_parts.specs.Answer.{answer, fault_or}
-use Rattle.simd_json_parts.specs.Bytes.{indices}
-use Rattle.simd_json_parts.specs.Descent.{descent}
+use Rattle.simd_json_parts.specs.Answer.{answer}
 use Rattle.simd_json_parts.specs.Faults.{whole_fault}
 use Rattle.simd_json_parts.specs.InputFaults.{has_bad_string, input_fault}
 use Rattle.simd_json_parts.specs.Limits.{max_length}
-use Rattle.simd_json_parts.specs.Positions.{positions, is_position}
+use Rattle.simd_json_parts.specs.Positions.{positions}
 use Rattle.simd_json_check.specs.Checkers.{CheckerCapacities, IsUnchecked}
 use Rattle.simd_json_stages.proofs.Whole.{fault-answered}
 use Rattle.simd_json_stages.specs.Capacities.{IndexCapacities, IsScanError, capacity, positions_after}
 use Rattle.simd_json_parts.specs.declared.error.Error.{Error}
 use Rattle.simd_json_parts.specs.declared.error.ErrorType.TheVariants.{Eof, InputTooLarge, InvalidUtf8, OutOfMemory, Syntax}
-use Rattle.simd_json_stages.specs.NodesEnough.{nodes_enough}
 
 -- ---- what is listed after an error
 
