@@ -3,7 +3,7 @@ ghost use Rattle.std.specs.Prelude.{length};
 
 use crate::tests::spans::empty_list;
 use crate::tests::tape_of;
-use simd_json::{Buffers, fill_spans, keep_spans};
+use simd_json::{Buffers, SpanSink, fill_spans, keep_spans};
 
 mod first_call {
     use simd_json::{Result, to_tape};
