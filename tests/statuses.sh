@@ -179,7 +179,7 @@ for word in --help -h; do
 done
 for word in --version -V; do
     given '' "$word"
-    wanted "log_report $word" 0 'log_report 0.3.0\n' ''
+    wanted "log_report $word" 0 'log_report 0.4.0\n' ''
 done
 given '{}'
 said 'no key' 2 'KEY|POINTER'

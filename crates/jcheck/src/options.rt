@@ -94,7 +94,7 @@ fn command<'a>(alloc: Global) -> Result<Command<'a>, Error> {
         .help(FILES_HELP);
     Ok(
         Command::new(alloc, "jcheck")
-            .version("0.3.0")
+            .version("0.4.0")
             .about("Checks that files are JSON (RFC 8259), and says where and why they are not")
             .arg(depth)?
             .arg(lines)?

@@ -352,7 +352,7 @@ fn command<'a>(alloc: Global) -> Result<Command<'a>, Error> {
         .action(ArgAction::Append)
         .num_args(0..)
         .help(FILE_HELP);
-    let command = Command::new(alloc, "jpick").version("0.3.0").about(
+    let command = Command::new(alloc, "jpick").version("0.4.0").about(
         "Prints what JSON Pointers or JSONPaths select of each line of JSON Lines, or of documents",
     );
     let command = with_rows(alloc, command)?;

@@ -152,7 +152,7 @@ fn command<'a>(alloc: Global) -> Result<Command<'a>, Error> {
         .help(FILES_HELP);
     Ok(
         Command::new(alloc, "log_report")
-            .version("0.3.0")
+            .version("0.4.0")
             .about("Counts the lines of JSON Lines by their values at keys or JSON Pointers")
             .arg(and)?
             .arg(tsv)?
