@@ -50,16 +50,16 @@
 extern "C" {
 #endif
 
-/* The version of this header, as in `#if SIMD_JSON_VERSION >= 300`, and the version of the library that is linked. With the
+/* The version of this header, as in `#if SIMD_JSON_VERSION >= 400`, and the version of the library that is linked. With the
  * same soname a program needs no new build: before 1.0 the soname has the major and the minor number, later the major one alone. */
 #define SIMD_JSON_VERSION_MAJOR 0
-#define SIMD_JSON_VERSION_MINOR 3
+#define SIMD_JSON_VERSION_MINOR 4
 #define SIMD_JSON_VERSION_PATCH 0
 #define SIMD_JSON_VERSION (SIMD_JSON_VERSION_MAJOR * 10000 + SIMD_JSON_VERSION_MINOR * 100 + SIMD_JSON_VERSION_PATCH)
 uint32_t simd_json_version(void);
 
-/* What a call returns: SIMD_JSON_OK, or why there is no result. The first error of the input is reported: one of the
- * whole input, in the order below, otherwise the first at a token. */
+/* What a call returns: SIMD_JSON_OK, or why it has no result. The first error of the input is reported: one of the whole input, in
+ * the order below, otherwise the first at a token. */
 enum {
     SIMD_JSON_OK = 0,
 
@@ -95,14 +95,13 @@ enum {
     /* The parser is not open. The input is not read. */
     SIMD_JSON_PARSER_CLOSED = 20,
 
-    /* The JSON Pointer names no value: in the document that simd_json_parser_print reads, or in the input that
-     * simd_json_parser_index has kept. Or the pointer is not UTF-8; then the input is not read. */
+    /* There is no such value: the JSON Pointer names none, or is not UTF-8; or no node has the index. */
     SIMD_JSON_NO_VALUE = 21
 };
 
 /* Where an input is rejected: a byte offset into it, and the byte there. A number that ends too early may be reported at the
  * length, with a space. INVALID_ESCAPE and INVALID_UNICODE_CODEPOINT are at the backslash, with the byte after it. Index 0 and
- * SIMD_JSON_NO_CHARACTER if the error is of the whole input, or if there is no error. */
+ * SIMD_JSON_NO_CHARACTER if the error is of the whole input, or without an error. */
 typedef struct {
     size_t index;
     uint32_t character;
@@ -150,20 +149,39 @@ static inline size_t simd_json_next(const simd_json_node *nodes, size_t i) {
  * is rejected at a token or has more than 64 open containers. Writes *place. */
 int32_t simd_json_check(const void *input, size_t len, size_t max_depth, simd_json_place *place);
 
-/* Returns the index of the value of the first pair with a key, in the object at index `object`; SIMD_JSON_NO_NODE if there is
- * none, or that node is not an object. The key is passed as its bytes: for `{"a/b":1}` it is `a/b`.
+/* Returns the index of the value of the first pair with a key, in the object at index `object`; or SIMD_JSON_NO_NODE if the object
+ * lacks the key, or that node is not an object. The key is passed as its bytes: for `{"a/b":1}` it is `a/b`.
  *
  * For nodes that are not those of a document the result is unspecified, but below nodes_len or SIMD_JSON_NO_NODE. */
 #define SIMD_JSON_NO_NODE SIZE_MAX
-size_t simd_json_key(const simd_json_node *nodes, size_t nodes_len, const void *text, size_t text_len, size_t object,
+size_t simd_json_get(const simd_json_node *nodes, size_t nodes_len, const void *text, size_t text_len, size_t object,
                      const void *key, size_t key_len);
 
 /* Returns the index of the node that a JSON Pointer (RFC 6901) names in the value at index `from`, or SIMD_JSON_NO_NODE if the
  * pointer is malformed or names nothing. The empty pointer names the value itself. In any other each `/` begins a reference
  * token: the key of a pair of an object, of equal keys the first, with `~1` for `/` and `~0` for `~`; or the index of an element
- * of an array, in digits without a leading zero. For nodes that are not those of a document see simd_json_key. */
+ * of an array, in digits without a leading zero. For nodes that are not those of a document see simd_json_get. */
 size_t simd_json_pointer(const simd_json_node *nodes, size_t nodes_len, const void *text, size_t text_len, size_t from,
                          const void *pointer, size_t pointer_len);
+
+/* How a value is printed: without whitespace, or with a line for each member, after two spaces for each container that is open
+ * there. Pretty text can be much longer than the input. */
+enum {
+    SIMD_JSON_COMPACT = 0,
+    SIMD_JSON_PRETTY = 1 /* as any other number */
+};
+
+/* Prints the value at index `from` of the nodes of a document. A decimal is its literal, an integer its digits; in strings a quote,
+ * a backslash and bytes below 0x20 are escaped.
+ *
+ * OK: *needed is the length of the text, which is at the front of out, without a terminator; nothing after it is written.
+ * TOO_LITTLE_ROOM: *needed is the length that is needed, and out is unchanged. For compact text `text_len` bytes of out are always
+ * enough: text_len is the length of the input.
+ * NO_VALUE: `from` is not below nodes_len. OUT_OF_MEMORY: an allocation failed. After both *needed and out are unchanged.
+ *
+ * For nodes that are not those of a document, and for texts that have changed since the parse, the text is unspecified. */
+int32_t simd_json_print(const simd_json_node *nodes, size_t nodes_len, const void *text, size_t text_len, size_t from,
+                        uint32_t layout, void *out, size_t out_len, size_t *needed);
 
 /* Converts a number as it is written, such as the literal of a SIMD_JSON_DECIMAL, to the nearest double, in any locale, but only
  * in the default rounding mode (FE_TONEAREST):
@@ -175,6 +193,18 @@ size_t simd_json_pointer(const simd_json_node *nodes, size_t nodes_len, const vo
  * INVALID_NUMBER: the bytes are not exactly one number of a document; *number is unchanged. */
 int32_t simd_json_double(const void *literal, size_t len, double *number);
 
+/* Converts an integer as it is written, such as the literal of a SIMD_JSON_I128 or a SIMD_JSON_U128: *low and *high are the lower
+ * and the upper 64 bits of its 128, of a negative integer in two's complement:
+ *
+ *     uint64_t low, high;
+ *     if (simd_json_integer(text + node.value, node.len, &low, &high) == SIMD_JSON_OK)
+ *         number = (unsigned __int128)high << 64 | low;
+ *
+ * A literal that begins with `-` is from -2^127 to 0, any other from 0 to 2^128 - 1.
+ * INVALID_NUMBER: the bytes are not exactly one integer of a document; *low and *high are unchanged. A number with a fraction or an
+ * exponent is no integer, whatever its value. */
+int32_t simd_json_integer(const void *literal, size_t len, uint64_t *low, uint64_t *high);
+
 /* Writes the structural indexes of the input, in ascending order: the byte offset of the opening quote of each string and,
  * outside strings, of each structural character and of the first byte of each other token. Writes *place.
  *
@@ -184,10 +214,10 @@ int32_t simd_json_double(const void *literal, size_t len, double *number);
  * OK: *used is how many indexes there are; nothing after them is written.
  * TOO_LITTLE_ROOM: *used is how many there are, and indexes is unchanged. Room for `len` of them is always enough.
  * Any other status: *used and indexes are unchanged. */
-int32_t simd_json_index(const void *input, size_t len, uint32_t *indexes, size_t indexes_len, size_t *used,
-                        simd_json_place *place);
+int32_t simd_json_scan(const void *input, size_t len, uint32_t *indexes, size_t indexes_len, size_t *used,
+                       simd_json_place *place);
 
-/* Where an input is rejected, for people: a byte offset, its line by line feeds and its column in characters, both from 1. */
+/* A place in an input, for people: a byte offset, its line by line feeds and its column in characters, both from 1. */
 typedef struct {
     size_t byte;
     size_t line;
@@ -210,6 +240,16 @@ typedef struct {
 int32_t simd_json_location(const void *input, size_t len, int32_t status, const simd_json_place *place,
                            simd_json_position *position, void *out, size_t out_len, size_t *needed);
 
+/* Finds where a node of a document was written: the position of its first byte in the input. `input` is the bytes as they were
+ * before the parse, and `node` the index of the node: of the first byte of a scalar, of the opening quote of a key or a string, or of
+ * the opening bracket of a container.
+ *
+ *     fprintf(stderr, "line %zu, column %zu: expected a port\n", position.line, position.column);
+ *
+ * OK: *position is written. NO_VALUE: the input has not so many nodes. OUT_OF_MEMORY: an allocation failed. After both *position is
+ * unchanged. For an input that is not a document the result is unspecified. */
+int32_t simd_json_node_position(const void *input, size_t len, size_t node, simd_json_position *position);
+
 /* A parser that keeps its memory from one input to the next, which is faster for many small inputs:
  *
  *     simd_json_parser parser = {0};
@@ -226,7 +266,7 @@ typedef struct {
 } simd_json_parser;
 
 /* Opens a parser for inputs with at most max_depth open containers. A parser that is open is closed first. OUT_OF_MEMORY: its
- * one allocation failed, and it is closed. There is no other error. */
+ * one allocation failed, and it is closed. It returns no other error. */
 int32_t simd_json_open(simd_json_parser *parser, size_t max_depth);
 
 /* Like simd_json_check, in memory that the parser keeps. The parser stays open after each status. OUT_OF_MEMORY: an allocation
@@ -252,16 +292,8 @@ typedef struct {
 int32_t simd_json_parser_parse(simd_json_parser *parser, void *input, size_t len, simd_json_document *document,
                                simd_json_place *place);
 
-/* How a document is printed: without whitespace, or with a line for each member, after two spaces for each container that is
- * open there. Pretty text can be much longer than the input. */
-enum {
-    SIMD_JSON_COMPACT = 0,
-    SIMD_JSON_PRETTY = 1 /* as any other number */
-};
-
-/* Prints the value that a JSON Pointer names in a document (simd_json_pointer); the empty pointer names the whole document. A
- * decimal is its literal, an integer its digits; in strings a quote, a backslash and bytes below 0x20 are escaped. The whole
- * input is read, and any error in it is reported. Writes *place. OVERWRITES the input.
+/* Prints the value that a JSON Pointer names in a document (simd_json_pointer), in the form of simd_json_print; the empty pointer
+ * names the whole document. The whole input is read, and any error in it is reported. Writes *place. OVERWRITES the input.
  *
  * OK: *needed is the length of the text, which is at the front of out, without a terminator; nothing after it is written.
  * TOO_LITTLE_ROOM: *needed is the length that is needed, and out is unchanged; pass a fresh copy of the input with more. For
@@ -276,8 +308,8 @@ int32_t simd_json_parser_print(simd_json_parser *parser, void *input, size_t len
 /* Values on demand: an input is kept, and values in it are found by JSON Pointers (simd_json_pointer), without nodes.
  *
  *     simd_json_found found;
- *     if (simd_json_parser_index(&parser, line, len, &place) == SIMD_JSON_OK
- *         && simd_json_parser_find(&parser, "/user/id", 8, &found, out, sizeof out) == SIMD_JSON_OK)
+ *     if (simd_json_parser_scan(&parser, line, len, &place) == SIMD_JSON_OK
+ *         && simd_json_parser_pointer(&parser, "/user/id", 8, &found, out, sizeof out) == SIMD_JSON_OK)
  *         printf("%.*s\n", (int)found.len, out);
  *
  * Only what is on the way to a value is read: a value may also be found in an input that is not a document. A malformed word or
@@ -288,26 +320,25 @@ typedef struct {
 } simd_json_found;
 
 /* Keeps a copy of the input with its structural indexes, instead of the input that was kept before. Writes *place. The errors
- * are those of simd_json_index, OUT_OF_MEMORY only if what the parser keeps is too small; after an error no input is kept. Of the
+ * are those of simd_json_scan, OUT_OF_MEMORY only if what the parser keeps is too small; after an error no input is kept. Of the
  * other calls only simd_json_close and simd_json_open discard it. */
-int32_t simd_json_parser_index(simd_json_parser *parser, const void *input, size_t len, simd_json_place *place);
+int32_t simd_json_parser_scan(simd_json_parser *parser, const void *input, size_t len, simd_json_place *place);
 
 /* Writes the value that a pointer names in the input that is kept, as it is written there: a string with quotes and escapes, an
  * array or an object with all that is in it. It can be passed on as an input, as to simd_json_parser_parse.
  *
  * OK: *found is its kind and its length, and it is at the front of out; nothing after it is written.
  * TOO_LITTLE_ROOM: *found is the same, and out is unchanged.
- * NO_VALUE: there is none, the pointer is not UTF-8, or no input is kept; *found and out are unchanged, as after PARSER_CLOSED,
+ * NO_VALUE: the pointer names none or is not UTF-8, or no input is kept; *found and out are unchanged, as after PARSER_CLOSED,
  * which comes before. */
-int32_t simd_json_parser_find(simd_json_parser *parser, const void *pointer, size_t pointer_len, simd_json_found *found, void *out,
-                              size_t out_len);
+int32_t simd_json_parser_pointer(simd_json_parser *parser, const void *pointer, size_t pointer_len, simd_json_found *found,
+                                 void *out, size_t out_len);
 
 /* Frees what the parser keeps, and closes it. It may be opened again; closing a closed parser does nothing. */
 void simd_json_close(simd_json_parser *parser);
 
 /* Writes the name of a status, as "InvalidNumber", or of a kind of node, as "Decimal", to the front of out if it fits, without a
- * terminator: printf("%.*s", (int)n, out). Returns its length, at most SIMD_JSON_NAME_MAX, or 0 if there is no such status or
- * kind. */
+ * terminator: printf("%.*s", (int)n, out). Returns its length, at most SIMD_JSON_NAME_MAX, or 0 for any other number. */
 #define SIMD_JSON_NAME_MAX 23
 size_t simd_json_status_name(int32_t status, void *out, size_t out_len);
 size_t simd_json_kind_name(uint32_t kind, void *out, size_t out_len);

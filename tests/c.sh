@@ -68,6 +68,11 @@ readelf -d "build/libsimd_json.so.$version" | grep -q "(SONAME).*\[libsimd_json.
 wrong=$(nm -D --defined-only build/libsimd_json.so | grep -v -e " T simd_json_[a-z_]*@@SIMD_JSON_$abi\$" -e " A SIMD_JSON_$abi\$" || true)
 [ -z "$wrong" ] || { echo "libsimd_json.so has other symbols: $wrong"; exit 1; }
 
+# The statuses of the header are the crate's.
+sed -n '/SIMD_JSON_OK = 0/,/};/s/^ *SIMD_JSON_\([A-Z0-9_]*\) = \([0-9]*\).*/\1 \2/p' include/simd_json.h > "$room/statuses"
+sed -n 's/^pub(crate) const \([A-Z0-9_]*\): i32 = \([0-9]*\);/\1 \2/p' crates/simd_json_c/src/status.rt | diff "$room/statuses" - \
+    || { echo "crates/simd_json_c/src/status.rt has other statuses than the header"; exit 1; }
+
 # The header's example, as it is written there, against what `make install` puts into a folder.
 make -s install-library PREFIX="$room/installed"
 sed -n '/^ \*     }$/{s/^ \*     //p;q;};s/^ \*     //p' include/simd_json.h > "$room/example.c"

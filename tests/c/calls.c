@@ -39,7 +39,7 @@ static void closed(simd_json_parser *parser) {
         WANT(simd_json_parser_print(parser, copy, 3, pointer, strlen(pointer), i % 2, out, 8, &needed, &place) == SIMD_JSON_PARSER_CLOSED,
              pointer);
         WANT(place.index == 0 && place.character == SIMD_JSON_NO_CHARACTER, pointer);
-        WANT(simd_json_parser_find(parser, pointer, strlen(pointer), &found, out, 8) == SIMD_JSON_PARSER_CLOSED, pointer);
+        WANT(simd_json_parser_pointer(parser, pointer, strlen(pointer), &found, out, 8) == SIMD_JSON_PARSER_CLOSED, pointer);
     }
     WANT(needed == 7 && found.kind == 77 && found.len == 77 && strcmp(copy, "[1]") == 0 && *out == 0, "closed");
 }
@@ -160,8 +160,12 @@ static void doubles(void) {
         {"9007199254740993", 0x1p53}, {"9007199254740995", 0x1.0000000000002p53}, {"9007199254740993.00000000000000000001", 0x1.0000000000001p53},
         {"1.7976931348623157e308", 0x1.fffffffffffffp1023}, {"1.7976931348623159e308", INFINITY}, {"-1e400", -INFINITY},
         {"2.2250738585072011e-308", 0x0.fffffffffffffp-1022}, {"5e-324", 0x1p-1074}, {"2e-324", 0}, {"-2e-324", -0.0},
-        {"340282366920938463463374607431768211455", 0x1p128}, {"-170141183460469231731687303715884105728", -0x1p127}};
-    static const char *const others[] = {"", "-", "1.", ".5", "01", "-01", "+1", "1e", "1e+", "1 ", " 1", "1,", "1]", "0x10", "inf",
+        {"340282366920938463463374607431768211455", 0x1p128}, {"-170141183460469231731687303715884105728", -0x1p127},
+        {"1234567.1234567890123456", 1234567.1234567890123456}, {"0.5", 0.5}, {"-7.25", -7.25}, {"12345678.5", 12345678.5},
+        {"-65.61361699999997", -65.61361699999997}, {"0.0000000000000001", 1e-16}, {"9999999.999999999999", 9999999.999999999999},
+        {"0.12345678", 0.12345678}, {"0.1234567", 0.1234567}, {"0.12345678901234567", 0.12345678901234567}};
+    static const char *const others[] = {"", "-", "1.", ".5", "01", "-01", "01.5", "00.5", "-.5", "1.5 ", "1.234567x", "1.2345678x", "123456.x",
+                                         "1.x2345678", "1.12345678x", "1.1234567.", "1.1234567:", "1./2345678", "1.12345678/2345678", "+1", "1e", "1e+", "1 ", " 1", "1,", "1]", "0x10", "inf",
                                          "-inf", "nan", "NaN", "Infinity", "--1", "1.5.2", "1e5x", "1_0", "true", "\"1\"",
                                          "340282366920938463463374607431768211456"};
     double number;
@@ -182,6 +186,12 @@ static void doubles(void) {
         sprintf(literal, "%s%llu.%0*llue%d", i % 2 ? "-" : "", (unsigned long long)(random >> (random >> 58)), digits + 1,
                 (unsigned long long)(random % 1000), i % 3 ? power : -power);
         double nearest = strtod(literal, NULL);
+        WANT(simd_json_double(literal, strlen(literal), &number) == SIMD_JSON_OK, literal);
+        WANT(memcmp(&number, &nearest, sizeof number) == 0, literal);
+        int places = 1 + (int)(random >> 40) % 18;
+        sprintf(literal, "%s%llu.%0*llu", i % 2 ? "-" : "", (unsigned long long)(random >> (38 + i % 26)), places,
+                (unsigned long long)(random % UINT64_C(1000000000000000000)) >> (i % 60));
+        nearest = strtod(literal, NULL);
         WANT(simd_json_double(literal, strlen(literal), &number) == SIMD_JSON_OK, literal);
         WANT(memcmp(&number, &nearest, sizeof number) == 0, literal);
     }
@@ -275,7 +285,7 @@ static void keys_found(void) {
     WANT(simd_json_open(&parser, 4) == SIMD_JSON_OK, "opened");
     WANT(simd_json_parser_parse(&parser, copy, fresh(copy, document), &lent, &place) == SIMD_JSON_OK && lent.nodes_len == 18, document);
     for (size_t i = 0; i < sizeof rows / sizeof *rows; i++) {
-        size_t at = simd_json_key(lent.nodes, lent.nodes_len, lent.text, lent.text_len, rows[i].object, rows[i].key, rows[i].len);
+        size_t at = simd_json_get(lent.nodes, lent.nodes_len, lent.text, lent.text_len, rows[i].object, rows[i].key, rows[i].len);
         WANT(at == rows[i].at, rows[i].key);
     }
     simd_json_close(&parser);
@@ -425,10 +435,10 @@ static void values_found(void) {
         simd_json_found found = {77, 77};
         simd_json_place place = {5, 5};
         size_t len = fresh(copy, rows[i].input);
-        WANT(simd_json_parser_index(&parser, copy, len, &place) == SIMD_JSON_OK, rows[i].input);
+        WANT(simd_json_parser_scan(&parser, copy, len, &place) == SIMD_JSON_OK, rows[i].input);
         WANT(place.index == 0 && place.character == SIMD_JSON_NO_CHARACTER && strcmp(copy, rows[i].input) == 0, rows[i].input);
         memset(copy, 0, sizeof copy);
-        int status = simd_json_parser_find(&parser, pointer, strlen(pointer), &found, out, sizeof out);
+        int status = simd_json_parser_pointer(&parser, pointer, strlen(pointer), &found, out, sizeof out);
         WANT(status == (wanted ? SIMD_JSON_OK : SIMD_JSON_NO_VALUE), rows[i].input);
         WANT(wanted ? found.kind == rows[i].kind && found.len == strlen(wanted) && memcmp(out, wanted, found.len) == 0
                     : found.kind == 77 && found.len == 77,
@@ -444,34 +454,133 @@ static void input_kept(void) {
     simd_json_place place;
     simd_json_document lent;
     simd_json_parser parser = {0};
-    WANT(simd_json_parser_index(&parser, "[1]", 3, &place) == SIMD_JSON_PARSER_CLOSED && place.index == 0, "closed");
+    WANT(simd_json_parser_scan(&parser, "[1]", 3, &place) == SIMD_JSON_PARSER_CLOSED && place.index == 0, "closed");
     WANT(simd_json_open(&parser, 8) == SIMD_JSON_OK, "opened");
-    WANT(simd_json_parser_find(&parser, "", 0, &found, out, sizeof out) == SIMD_JSON_NO_VALUE, "nothing kept");
+    WANT(simd_json_parser_pointer(&parser, "", 0, &found, out, sizeof out) == SIMD_JSON_NO_VALUE, "nothing kept");
     WANT(found.kind == 77 && found.len == 77, "nothing kept");
-    WANT(simd_json_parser_index(&parser, "[\"\\u0041\", 2]", 13, &place) == SIMD_JSON_OK, "kept");
-    WANT(simd_json_parser_find(&parser, "/0", 2, &found, out, sizeof out) == SIMD_JSON_OK && found.len == 8, "kept");
+    WANT(simd_json_parser_scan(&parser, "[\"\\u0041\", 2]", 13, &place) == SIMD_JSON_OK, "kept");
+    WANT(simd_json_parser_pointer(&parser, "/0", 2, &found, out, sizeof out) == SIMD_JSON_OK && found.len == 8, "kept");
     WANT(simd_json_parser_parse(&parser, out, found.len, &lent, &place) == SIMD_JSON_OK, "kept");
     WANT(lent.nodes_len == 1 && lent.nodes[0].kind == SIMD_JSON_STRING && lent.nodes[0].len == 1 && lent.text[1] == 'A', "kept");
     WANT(simd_json_parser_check(&parser, "[3", 2, &place) == SIMD_JSON_SYNTAX, "kept");
     out[0] = 'x';
-    WANT(simd_json_parser_find(&parser, "/1", 2, &found, out, 0) == SIMD_JSON_TOO_LITTLE_ROOM, "kept");
+    WANT(simd_json_parser_pointer(&parser, "/1", 2, &found, out, 0) == SIMD_JSON_TOO_LITTLE_ROOM, "kept");
     WANT(found.kind == SIMD_JSON_U64 && found.len == 1 && out[0] == 'x', "kept");
     static const struct {
         const char *input;
         int status;
     } bad[] = {{"\"", SIMD_JSON_SYNTAX}, {" ", SIMD_JSON_EOF}, {"\377", SIMD_JSON_INVALID_UTF8}};
     for (size_t i = 0; i < sizeof bad / sizeof *bad; i++) {
-        WANT(simd_json_parser_index(&parser, "7", 1, &place) == SIMD_JSON_OK, "kept");
-        WANT(simd_json_parser_index(&parser, bad[i].input, 1, &place) == bad[i].status, bad[i].input);
+        WANT(simd_json_parser_scan(&parser, "7", 1, &place) == SIMD_JSON_OK, "kept");
+        WANT(simd_json_parser_scan(&parser, bad[i].input, 1, &place) == bad[i].status, bad[i].input);
         WANT(place.index == 0 && place.character == SIMD_JSON_NO_CHARACTER, bad[i].input);
-        WANT(simd_json_parser_find(&parser, "", 0, &found, out, sizeof out) == SIMD_JSON_NO_VALUE, bad[i].input);
+        WANT(simd_json_parser_pointer(&parser, "", 0, &found, out, sizeof out) == SIMD_JSON_NO_VALUE, bad[i].input);
+    }
+    simd_json_close(&parser);
+}
+
+// Each node of a document, also of keys; by hand. With less room nothing is written but the length.
+static void nodes_printed(void) {
+    static const char document[] =
+        " {\"a/b\" : [1, -2.50e1, \"\\u0001\\n\\\"\\u00e9\", { }], \"\": [18446744073709551616, -9223372036854775809, -0, true, null,[ ]]} ";
+    static const char *const compact[] = {
+        "{\"a/b\":[1,-2.50e1,\"\\u0001\\n\\\"\303\251\",{}],\"\":[18446744073709551616,-9223372036854775809,0,true,null,[]]}",
+        "\"a/b\"", "[1,-2.50e1,\"\\u0001\\n\\\"\303\251\",{}]", "1", "-2.50e1", "\"\\u0001\\n\\\"\303\251\"", "{}", "\"\"",
+        "[18446744073709551616,-9223372036854775809,0,true,null,[]]", "18446744073709551616", "-9223372036854775809", "0", "true", "null",
+        "[]"};
+    static const char pretty[] = "[\n  1,\n  -2.50e1,\n  \"\\u0001\\n\\\"\303\251\",\n  {}\n]";
+    enum { NODES = sizeof compact / sizeof *compact };
+    char copy[256], out[256];
+    simd_json_document lent;
+    simd_json_place place;
+    simd_json_parser parser = {0};
+    WANT(simd_json_open(&parser, 4) == SIMD_JSON_OK, "opened");
+    WANT(simd_json_parser_parse(&parser, copy, fresh(copy, document), &lent, &place) == SIMD_JSON_OK, document);
+    WANT(lent.nodes_len == NODES, document);
+    for (size_t at = 0; at < NODES; at++)
+        for (size_t room = 0; room <= strlen(compact[at]); room++) {
+            size_t needed = 77;
+            memset(out, 'x', sizeof out);
+            int status = simd_json_print(lent.nodes, NODES, lent.text, lent.text_len, at, SIMD_JSON_COMPACT, out, room, &needed);
+            int fits = room == strlen(compact[at]);
+            WANT(status == (fits ? SIMD_JSON_OK : SIMD_JSON_TOO_LITTLE_ROOM) && needed == strlen(compact[at]), compact[at]);
+            WANT(fits ? memcmp(out, compact[at], needed) == 0 && out[needed] == 'x' : out[0] == 'x', compact[at]);
+        }
+    for (uint32_t layout = 1; layout < 4; layout++) {
+        size_t needed = 77;
+        WANT(simd_json_print(lent.nodes, NODES, lent.text, lent.text_len, 2, layout, out, sizeof out, &needed) == SIMD_JSON_OK, pretty);
+        WANT(needed == strlen(pretty) && memcmp(out, pretty, needed) == 0, pretty);
+    }
+    for (size_t at = NODES; at + 1 > NODES; at = at == NODES ? SIZE_MAX : 0) {
+        size_t needed = 77;
+        out[0] = 'x';
+        WANT(simd_json_print(lent.nodes, NODES, lent.text, lent.text_len, at, 0, out, sizeof out, &needed) == SIMD_JSON_NO_VALUE, "none");
+        WANT(needed == 77 && out[0] == 'x', "none");
+        if (at == SIZE_MAX) break;
+    }
+    size_t needed = 77;
+    WANT(simd_json_print(0, 0, 0, 0, 0, 0, out, sizeof out, &needed) == SIMD_JSON_NO_VALUE && needed == 77, "no nodes");
+    simd_json_close(&parser);
+}
+
+// Integers at the ends of each range, by the compiler's own arithmetic, and what is none.
+static void integers(void) {
+    static const struct {
+        const char *literal;
+        uint64_t low, high;
+    } rows[] = {
+        {"0", 0, 0}, {"-0", 0, 0}, {"7", 7, 0}, {"-1", UINT64_MAX, UINT64_MAX}, {"9223372036854775807", INT64_MAX, 0},
+        {"-9223372036854775808", (uint64_t)1 << 63, UINT64_MAX}, {"18446744073709551615", UINT64_MAX, 0},
+        {"18446744073709551616", 0, 1}, {"-9223372036854775809", INT64_MAX, UINT64_MAX},
+        {"-18446744073709551616", 0, UINT64_MAX}, {"340282366920938463463374607431768211455", UINT64_MAX, UINT64_MAX},
+        {"-170141183460469231731687303715884105728", 0, (uint64_t)1 << 63},
+        {"170141183460469231731687303715884105728", 0, (uint64_t)1 << 63}};
+    static const char *const others[] = {"", "-", "01", "-01", "+1", "1.0", "1e3", "1 ", " 1", "1,", "0x1", "--1", "\"1\"", "true",
+                                         "340282366920938463463374607431768211456", "-170141183460469231731687303715884105729",
+                                         "99999999999999999999999999999999999999999999999999"};
+    for (size_t i = 0; i < sizeof rows / sizeof *rows; i++) {
+        uint64_t low = 5, high = 6;
+        WANT(simd_json_integer(rows[i].literal, strlen(rows[i].literal), &low, &high) == SIMD_JSON_OK, rows[i].literal);
+        WANT(low == rows[i].low && high == rows[i].high, rows[i].literal);
+    }
+    for (size_t i = 0; i < sizeof others / sizeof *others; i++) {
+        uint64_t low = 5, high = 6;
+        WANT(simd_json_integer(others[i], strlen(others[i]), &low, &high) == SIMD_JSON_INVALID_NUMBER, others[i]);
+        WANT(low == 5 && high == 6, others[i]);
+    }
+}
+
+// Each node of a document where it was written; by hand. The input has line feeds and characters of several bytes.
+static void nodes_located(void) {
+    static const char input[] = "{\"\303\251\": [1,\n  -2.5],\n\"b\" :{\"c\":null}\n , \"d\":\"]\"}";
+    static const struct {
+        size_t byte, line, column;
+    } rows[] = {{0, 1, 1}, {1, 1, 2}, {7, 1, 7}, {8, 1, 8}, {13, 2, 3}, {20, 3, 1}, {25, 3, 6}, {26, 3, 7}, {30, 3, 11}, {39, 4, 4},
+                {43, 4, 8}};
+    enum { NODES = sizeof rows / sizeof *rows };
+    char copy[64];
+    simd_json_document lent;
+    simd_json_place place;
+    simd_json_parser parser = {0};
+    WANT(simd_json_open(&parser, 4) == SIMD_JSON_OK, "opened");
+    WANT(simd_json_parser_parse(&parser, copy, fresh(copy, input), &lent, &place) == SIMD_JSON_OK && lent.nodes_len == NODES, input);
+    for (size_t node = 0; node < NODES; node++) {
+        simd_json_position at = {7, 7, 7};
+        WANT(simd_json_node_position(input, sizeof input - 1, node, &at) == SIMD_JSON_OK, input + rows[node].byte);
+        WANT(at.byte == rows[node].byte && at.line == rows[node].line && at.column == rows[node].column, input + rows[node].byte);
+    }
+    static const size_t others[] = {NODES, NODES + 1, SIZE_MAX};
+    for (size_t i = 0; i < 3; i++) {
+        simd_json_position at = {7, 7, 7};
+        WANT(simd_json_node_position(input, sizeof input - 1, others[i], &at) == SIMD_JSON_NO_VALUE && at.byte == 7, "no node");
+        WANT(simd_json_node_position("\"", i < 2 ? i : 0, 0, &at) == SIMD_JSON_NO_VALUE && at.line == 7, "no document");
     }
     simd_json_close(&parser);
 }
 
 static void version(void) {
     WANT(simd_json_version() == SIMD_JSON_VERSION, "version");
-    WANT(SIMD_JSON_VERSION == 300, "0.3.0");
+    WANT(SIMD_JSON_VERSION == 400, "0.4.0");
 }
 
 int main(void) {
@@ -487,6 +596,9 @@ int main(void) {
     literals_checked();
     more_text_located();
     values_printed();
+    nodes_printed();
+    integers();
+    nodes_located();
     tapes_lent();
     values_found();
     input_kept();

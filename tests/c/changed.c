@@ -35,7 +35,7 @@ static simd_json_document parse(char *page) {
 static void lead(const simd_json_document *of, const char *text) {
     for (size_t i = 0; i < POINTERS; i++)
         WANT(simd_json_pointer(of->nodes, NODES, text, of->text_len, 0, pointers[i], strlen(pointers[i])) == led[i]);
-    WANT(simd_json_key(of->nodes, NODES, text, of->text_len, 0, "b", 1) == 12);
+    WANT(simd_json_get(of->nodes, NODES, text, of->text_len, 0, "b", 1) == 12);
 }
 
 // The nodes with texts of which each byte is another, in memory that has no more: what is found is a node or none.
@@ -52,9 +52,13 @@ static void change(void) {
             for (size_t i = 0; i < POINTERS; i++) {
                 size_t found = simd_json_pointer(of.nodes, NODES, text, of.text_len, at, pointers[i], strlen(pointers[i]));
                 WANT(found < NODES || found == SIMD_JSON_NO_NODE);
-                found = simd_json_key(of.nodes, NODES, text, of.text_len, at, pointers[i], strlen(pointers[i]));
+                found = simd_json_get(of.nodes, NODES, text, of.text_len, at, pointers[i], strlen(pointers[i]));
                 WANT(found < NODES || found == SIMD_JSON_NO_NODE);
             }
+            char out[256];
+            size_t needed = 777;
+            int32_t printed = simd_json_print(of.nodes, NODES, text, of.text_len, at, (uint32_t)byte % 2, out, sizeof out, &needed);
+            WANT(printed == SIMD_JSON_OK ? needed <= sizeof out : printed == SIMD_JSON_TOO_LITTLE_ROOM && needed > sizeof out);
             double number = 7;
             if (of.nodes[at].kind == SIMD_JSON_DECIMAL) {
                 int32_t status = simd_json_double(text + of.nodes[at].value, of.nodes[at].len, &number);
@@ -65,6 +69,29 @@ static void change(void) {
         free(text);
     }
     munmap(page, PAGE);
+}
+
+// Nodes of any bytes: what is printed is some text, or an allocation fails.
+static void invent(void) {
+    uint64_t random = 1;
+    for (int round = 0; round < 200000; round++) {
+        enum { MOST = 8 };
+        char text[MOST], *out = malloc(64);
+        simd_json_node *nodes = malloc(MOST * sizeof *nodes);
+        size_t len = (size_t)round % (MOST + 1), needed = 777;
+        for (size_t i = 0; i < len; i++) {
+            random = random * UINT64_C(6364136223846793005) + 1442695040888963407;
+            uint64_t value = random >> 58 < 8 ? random : (random >> 40) % 12;
+            nodes[i] = (simd_json_node){(uint32_t)(random >> 33) % 11, (uint32_t)(random >> 60 == 0 ? random >> 32 : (random >> 36) % 10), value};
+            text[i] = (char)(random >> 20);
+        }
+        int32_t status = simd_json_print(nodes, len, text, len, (random >> 50) % MOST, (uint32_t)round % 2, out, 64, &needed);
+        WANT(status == SIMD_JSON_NO_VALUE || status == SIMD_JSON_OUT_OF_MEMORY ? needed == 777
+             : status == SIMD_JSON_OK                                       ? needed <= 64
+                                                                            : status == SIMD_JSON_TOO_LITTLE_ROOM && needed > 64);
+        free(nodes);
+        free(out);
+    }
 }
 
 // The texts at another address, when the input is gone.
@@ -99,8 +126,8 @@ static void drop(void) {
         case 0: simd_json_parser_parse(&parser, copy, len, &of, &place); break;
         case 1: simd_json_parser_check(&parser, copy, len, &place); break;
         case 2: simd_json_parser_print(&parser, copy, len, 0, 0, SIMD_JSON_PRETTY, out, sizeof out, &needed, &place); break;
-        case 3: simd_json_parser_index(&parser, copy, len, &place); break;
-        default: simd_json_parser_find(&parser, "/0", 2, &found, out, sizeof out); break;
+        case 3: simd_json_parser_scan(&parser, copy, len, &place); break;
+        default: simd_json_parser_pointer(&parser, "/0", 2, &found, out, sizeof out); break;
         }
     }
     char *page = map();
@@ -112,6 +139,7 @@ static void drop(void) {
 int main(void) {
     WANT(simd_json_open(&parser, 4) == SIMD_JSON_OK);
     change();
+    invent();
     move();
     drop();
     return 0;

@@ -96,9 +96,9 @@ static void finds(const char *pointer, uint32_t kind, const char *wanted) {
         lent input = lend_copy(document, len), name = lend_copy(pointer, pointer_len), out = lend(room);
         simd_json_found found = {77, 77};
         simd_json_place place;
-        WANT(simd_json_parser_index(&parser, input.at, len, &place) == SIMD_JSON_OK);
+        WANT(simd_json_parser_scan(&parser, input.at, len, &place) == SIMD_JSON_OK);
         give_back(input, len);
-        int status = simd_json_parser_find(&parser, name.at, pointer_len, &found, out.at, room);
+        int status = simd_json_parser_pointer(&parser, name.at, pointer_len, &found, out.at, room);
         int fits = room >= wanted_len;
         WANT(status == (fits ? SIMD_JSON_OK : SIMD_JSON_TOO_LITTLE_ROOM) && found.kind == kind && found.len == wanted_len);
         WANT(!fits || memcmp(out.at, wanted, wanted_len) == 0);
@@ -113,7 +113,7 @@ static void indexes(void) {
         lent input = lend_copy(document, len), out = lend(room * sizeof(uint32_t));
         size_t used = 0;
         simd_json_place place;
-        int status = simd_json_index(input.at, len, out.at, room, &used, &place);
+        int status = simd_json_scan(input.at, len, out.at, room, &used, &place);
         int fits = room >= 27;
         WANT(status == (fits ? SIMD_JSON_OK : SIMD_JSON_TOO_LITTLE_ROOM) && used == 27);
         for (size_t i = 0; fits && i < 6; i++) WANT(document[((uint32_t *)out.at)[21 + i]] == ",\":t}}"[i]);
@@ -185,7 +185,7 @@ static void pointers(void) {
             size_t found = simd_json_pointer(nodes.at, a, text_part.at, b, 0, path.at, 4);
             if (a == NODES && b == len) WANT(found == 13);
             WANT(found == SIMD_JSON_NO_NODE || found < a);
-            found = simd_json_key(nodes.at, a, text_part.at, b, 0, (char *)path.at + 1, 1);
+            found = simd_json_get(nodes.at, a, text_part.at, b, 0, (char *)path.at + 1, 1);
             if (a == NODES && b == len) WANT(found == 9);
             WANT(found == SIMD_JSON_NO_NODE || found < a);
             give_back(nodes, a * sizeof *all);
@@ -215,7 +215,7 @@ static void pointers(void) {
         const char *path = paths[(random >> 40) % 8];
         size_t found = simd_json_pointer(nodes.at, 5, text_part.at, 3, (random >> 50) % 6, path, strlen(path));
         WANT(found == SIMD_JSON_NO_NODE || found < 5);
-        found = simd_json_key(nodes.at, 5, text_part.at, 3, (random >> 50) % 6, path, strlen(path));
+        found = simd_json_get(nodes.at, 5, text_part.at, 3, (random >> 50) % 6, path, strlen(path));
         WANT(found == SIMD_JSON_NO_NODE || found < 5);
         munmap(nodes.page, 2 * PAGE);
         munmap(text_part.page, 2 * PAGE);

@@ -54,7 +54,26 @@ static int location(void) {
     simd_json_position position;
     return simd_json_location(document, sizeof document - 1, SIMD_JSON_INTERNAL_ERROR, &at, &position, out, 64, &needed);
 }
-static int indexed(void) { return simd_json_index(input, sizeof document - 1, indexes, 32, &needed, &place); }
+// The nodes of `deep`, and of a string in it.
+static int printed(void) {
+    simd_json_node nodes[101];
+    for (unsigned i = 0; i < 100; i++) nodes[i] = (simd_json_node){SIMD_JSON_ARRAY, 1, 100 - i};
+    nodes[100] = (simd_json_node){SIMD_JSON_STRING, 2, 1};
+    char text[400];
+    size_t len = 77;
+    int status = simd_json_print(nodes, 101, "\"\303\251\"", 4, 0, SIMD_JSON_COMPACT, text, sizeof text, &len);
+    WANT(status == SIMD_JSON_OK ? len == 204 && memcmp(text + 100, "\"\303\251\"]", 5) == 0 : len == 77);
+    place = (simd_json_place){0, SIMD_JSON_NO_CHARACTER};
+    return status;
+}
+static int node_located(void) {
+    simd_json_position position = {7, 7, 7};
+    int status = simd_json_node_position(document, sizeof document - 1, 3, &position);
+    WANT(status == SIMD_JSON_OK ? position.byte == 4 && position.column == 5 : position.byte == 7);
+    place = (simd_json_place){0, SIMD_JSON_NO_CHARACTER};
+    return status;
+}
+static int indexed(void) { return simd_json_scan(input, sizeof document - 1, indexes, 32, &needed, &place); }
 
 static simd_json_parser parser;
 static simd_json_document lent;
@@ -71,8 +90,8 @@ static int kept_print_at(void) {
 static int kept_parse(void) { return simd_json_parser_parse(&parser, input, sizeof document - 1, &lent, &place); }
 static int kept_index(void) {
     static simd_json_found found;
-    int status = simd_json_parser_index(&parser, input, sizeof document - 1, &place);
-    int looked = simd_json_parser_find(&parser, "/1/1", 4, &found, out, 64);
+    int status = simd_json_parser_scan(&parser, input, sizeof document - 1, &place);
+    int looked = simd_json_parser_pointer(&parser, "/1/1", 4, &found, out, 64);
     WANT(looked == (status == SIMD_JSON_OK ? SIMD_JSON_OK : SIMD_JSON_NO_VALUE));
     WANT(status != SIMD_JSON_OK || (found.kind == SIMD_JSON_OBJECT && found.len == 10 && memcmp(out, "{\"a\":\"\\n\"}", 10) == 0));
     return status;
@@ -170,6 +189,8 @@ int main(void) {
     each_fails(check_deep);
     each_fails(indexed);
     each_fails(location);
+    each_fails(printed);
+    each_fails(node_located);
     each_fails(kept);
     one_opens();
     memory_is_kept();

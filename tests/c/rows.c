@@ -333,12 +333,42 @@ static void compare(struct bytes *wrong, const struct tape *tape, const char *ca
 // The pointer that names the whole document.
 static const struct bytes whole;
 
+// The nodes of a document are printed as the document is, into just as much as is needed.
+static void compare_nodes(struct bytes *wrong, const struct tape *tape, uint32_t layout, const struct bytes *text) {
+    size_t needed = NOT_WRITTEN, again = NOT_WRITTEN;
+    int status = simd_json_print(tape->nodes, tape->nodes_len, tape->text, tape->text_len, 0, layout, 0, 0, &needed);
+    if (status != SIMD_JSON_TOO_LITTLE_ROOM || needed != text->len) {
+        blame(wrong, "simd_json_print", " needs another length");
+        return;
+    }
+    struct bytes out = {memory(needed), needed, needed};
+    status = simd_json_print(tape->nodes, tape->nodes_len, tape->text, tape->text_len, 0, layout, out.at, needed, &again);
+    if (status != SIMD_JSON_OK || again != needed || !is_same(&out, text)) blame(wrong, "simd_json_print", " differs");
+    free(out.at);
+}
+
+// Each node was written where its text begins; all others are counted.
+static void compare_places(struct bytes *wrong, const struct tape *tape, const struct row *row) {
+    enum { MOST = 200 };
+    for (size_t i = 0; i <= tape->nodes_len && i < MOST; i++) {
+        simd_json_position at = {NOT_WRITTEN, NOT_WRITTEN, NOT_WRITTEN};
+        int status = simd_json_node_position(row->input.at, row->input.len, i, &at);
+        const simd_json_node *node = &tape->nodes[i];
+        if (i == tape->nodes_len ? status != SIMD_JSON_NO_VALUE || at.byte != NOT_WRITTEN : status != SIMD_JSON_OK)
+            blame(wrong, "simd_json_node_position", " has another status");
+        else if (i < tape->nodes_len && node->kind >= SIMD_JSON_I128 && node->kind <= SIMD_JSON_STRING
+                 && at.byte + (node->kind == SIMD_JSON_STRING) != node->value)
+            blame(wrong, "simd_json_node_position", " is elsewhere");
+    }
+}
+
 // A document is printed, and read again as an equal value.
 static void compare_print(struct bytes *wrong, const struct tape *tape, const struct row *row, simd_json_parser *parser, uint32_t layout) {
     const char *call = print_name(layout);
     struct print text = print_of(parser, layout, row, &whole, wrong);
     compare(wrong, tape, call, text.status, text.place);
     if (text.status == SIMD_JSON_OK && tape->status == SIMD_JSON_OK) {
+        compare_nodes(wrong, tape, layout, &text.text);
         struct row printed = {text.text, row->limit};
         struct tape again = tape_of(new_parser(&printed), &printed, wrong);
         if (again.status != SIMD_JSON_OK || !is_equal(tape, &again)) {
@@ -359,6 +389,7 @@ static void answer_parse(struct bytes *to, const struct row *row, simd_json_pars
     compare(&wrong, &tape, "simd_json_parser_parse, kept", kept.status, kept.place);
     if (tape.status == SIMD_JSON_OK && !is_tidy(&tape)) blame(&wrong, "simd_json_parser_parse", " has wrong fields");
     if (kept.status == SIMD_JSON_OK && !is_same_tape(&tape, &kept)) blame(&wrong, "simd_json_parser_parse", " lends another tape, kept");
+    if (tape.status == SIMD_JSON_OK) compare_places(&wrong, &tape, row);
     simd_json_place place;
     int status = check(0, row, &place, &wrong);
     compare(&wrong, &tape, "simd_json_check", status, place);
@@ -393,22 +424,22 @@ static void answer_indexes(struct bytes *to, const struct row *row) {
     size_t used = NOT_WRITTEN, again = NOT_WRITTEN;
     simd_json_place place = {NOT_WRITTEN, NOT_WRITTEN};
     void *copy = copy_of(row->input.at, row->input.len);
-    int status = simd_json_index(copy, row->input.len, 0, 0, &used, &place);
+    int status = simd_json_scan(copy, row->input.len, 0, 0, &used, &place);
     if (status != SIMD_JSON_TOO_LITTLE_ROOM) {
         put_text(to, "none");
-        if (used != NOT_WRITTEN) blame(to, "simd_json_index", " changed *used");
+        if (used != NOT_WRITTEN) blame(to, "simd_json_scan", " changed *used");
     } else {
         uint32_t *indexes = memory(used * sizeof *indexes);
-        status = simd_json_index(copy, row->input.len, indexes, used, &again, &place);
+        status = simd_json_scan(copy, row->input.len, indexes, used, &again, &place);
         for (size_t i = 0; i < used; i++) {
             if (i) put_text(to, " ");
             put_number(to, indexes[i]);
         }
-        if (status != SIMD_JSON_OK || again != used) blame(to, "simd_json_index", " is wrong with just enough room");
+        if (status != SIMD_JSON_OK || again != used) blame(to, "simd_json_scan", " is wrong with just enough room");
         free(indexes);
     }
-    if (!is_nowhere(place)) blame(to, "simd_json_index", " has a place");
-    if (row->input.len && memcmp(copy, row->input.at, row->input.len) != 0) blame(to, "simd_json_index", " changed the input");
+    if (!is_nowhere(place)) blame(to, "simd_json_scan", " has a place");
+    if (row->input.len && memcmp(copy, row->input.at, row->input.len) != 0) blame(to, "simd_json_scan", " changed the input");
     free(copy);
 }
 
@@ -486,21 +517,21 @@ static void compare_found(struct bytes *wrong, simd_json_parser *parser, const s
     simd_json_found found = {NOT_WRITTEN, NOT_WRITTEN};
     simd_json_place place;
     memset(out.at, NOT_WRITTEN, out.len);
-    if (simd_json_parser_index(parser, document_row.input.at, document_row.input.len, &place) != SIMD_JSON_OK || !is_nowhere(place))
-        blame(wrong, "simd_json_parser_index", " rejects a document");
-    int status = simd_json_parser_find(parser, pointer->at, pointer->len, &found, out.at, out.len);
+    if (simd_json_parser_scan(parser, document_row.input.at, document_row.input.len, &place) != SIMD_JSON_OK || !is_nowhere(place))
+        blame(wrong, "simd_json_parser_scan", " rejects a document");
+    int status = simd_json_parser_pointer(parser, pointer->at, pointer->len, &found, out.at, out.len);
     if (at == SIMD_JSON_NO_NODE) {
         if (status != SIMD_JSON_NO_VALUE || found.kind != NOT_WRITTEN || found.len != NOT_WRITTEN || !is_blank(&out, 0))
-            blame(wrong, "simd_json_parser_find", " finds a value");
+            blame(wrong, "simd_json_parser_pointer", " finds a value");
     } else if (status != SIMD_JSON_OK || found.kind != document.nodes[at].kind || !is_blank(&out, found.len)) {
-        blame(wrong, "simd_json_parser_find", " finds no such value");
+        blame(wrong, "simd_json_parser_pointer", " finds no such value");
     } else {
         struct row row = {{out.at, found.len, found.len}, 1024};
         struct bytes shown = {0}, own = {0};
         struct tape tape = tape_of(new_parser(&row), &row, wrong);
         put_value(&shown, &document, at);
         if (tape.status == SIMD_JSON_OK) put_value(&own, &tape, 0);
-        if (!is_same(&shown, &own)) blame(wrong, "simd_json_parser_find", " differs");
+        if (!is_same(&shown, &own)) blame(wrong, "simd_json_parser_pointer", " differs");
         free_tape(&tape);
         free(shown.at);
         free(own.at);

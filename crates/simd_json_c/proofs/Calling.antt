@@ -14,7 +14,7 @@ use Rattle.simd_json_c.specs.Calls.{IsCheckOf}
 use Rattle.simd_json_c.specs.Chosen.{IsChosenPut, IsPrintedWith, IsTapedWith}
 use Rattle.simd_json_c.specs.Kept.{IsCheckedWith, IsReadWith, KeepsLists}
 use Rattle.simd_json_c.specs.Lent.{AreLent, IsParsedWith}
-use Rattle.simd_json_c.specs.Statuses.{error_place, error_status, no_value}
+use Rattle.simd_json_c.specs.Statuses.{error_place, error_status, no_value_status}
 use Rattle.simd_json_c.specs.declared.lent.Lent.{Lent}
 use Rattle.simd_json_c.specs.declared.status.ErrorPlace.{ErrorPlace}
 use Rattle.simd_json_c.specs.declared.lists.Lists.{Lists}
@@ -53,7 +53,7 @@ pub printed-with : (old new : Option Lists) (was lists : Lists) (b : List ℕ) (
     → IsReported r status place
     → IfOk r (λ s. (IsUtf8 pointer × ((ns : List Item) × (d : Document) × IsTapedWith was b None ns lists × (listing d ≡ ns)
     × IsChosenPut (vec_capacity was.printed) (length was.levels.items) is_pretty pointer d s old_needed needed old_out out))
-    ⊎ ((IsUtf8 pointer → ⊥) × (s ≡ no_value) × (needed ≡ old_needed) × (out ≡ old_out)))
+    ⊎ ((IsUtf8 pointer → ⊥) × (s ≡ no_value_status) × (needed ≡ old_needed) × (out ≡ old_out)))
     → IfErr r (λ e. IsUtf8 pointer
     × ((ns : List Item) × IsTapedWith was b (Some e) ns lists × (needed ≡ old_needed) × (out ≡ old_out)))
     → IsPrintedWith old new b is_pretty pointer status place old_needed needed old_out out

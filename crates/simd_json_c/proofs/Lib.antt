@@ -5,3 +5,6 @@ mod Placing
 mod Calling
 mod Naming
 mod Doubles
+mod Printing
+mod NodePlaces
+mod Integers

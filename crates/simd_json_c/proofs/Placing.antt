@@ -22,61 +22,61 @@ use Rattle.simd_json_parts.specs.Pointed.{is_array_index, member_at, named, unes
 use Rattle.simd_json_parts.specs.Views.{get}
 use Rattle.simd_json_parts.specs.declared.node.StaticNode.{StaticNode}
 use Rattle.simd_json_parts.specs.declared.node.StaticNode.TheVariants as fixed
-use Rattle.simd_json_c.specs.Nodes.{item_node, span, static_node}
+use Rattle.simd_json_c.specs.Cells.{item_cell, cell_with, static_cell}
 use Rattle.simd_json_c.specs.Placed.{AreAt, AreFirst, IsNodeOf, IsValueAt, before_element, before_followed, before_member, before_named}
-use Rattle.simd_json_c.specs.Placed.{key_of}
-use Rattle.simd_json_c.specs.declared.nodes.Node.{Node}
+use Rattle.simd_json_c.specs.Placed.{token_key}
+use Rattle.simd_json_c.specs.declared.cells.Cell.{Cell}
 use Rattle.simd_json_parts.proofs.Pointers.Keys.{unescaped-plain}
 use Rattle.simd_json_parts.proofs.Pointers.Pointed.{member-here, member-later, member-none}
 
 -- ---- parts of a list
 
-first-front : (text : List ℕ) (xs ys : List Item) (nodes : List Node) → AreFirst text (xs ++ ys) nodes → AreFirst text xs nodes
+first-front : (text : List ℕ) (xs ys : List Item) (nodes : List Cell) → AreFirst text (xs ++ ys) nodes → AreFirst text xs nodes
 first-front text [] ys nodes are = tt
 first-front text (x ∷ xs) ys [] are = absurd are
 first-front text (x ∷ xs) ys (node ∷ nodes) are = (are.0, first-front text xs ys nodes are.1)
 
-first-back : (text : List ℕ) (xs ys : List Item) (nodes : List Node) → AreFirst text (xs ++ ys) nodes
+first-back : (text : List ℕ) (xs ys : List Item) (nodes : List Cell) → AreFirst text (xs ++ ys) nodes
     → AreFirst text ys (drop (length xs) nodes)
 first-back text [] ys nodes are = are
 first-back text (x ∷ xs) ys [] are = absurd are
 first-back text (x ∷ xs) ys (node ∷ nodes) are = first-back text xs ys nodes are.1
 
-first-few : (text : List ℕ) (xs : List Item) (nodes : List Node) → AreFirst text xs nodes → length xs ≤ length nodes
+first-few : (text : List ℕ) (xs : List Item) (nodes : List Cell) → AreFirst text xs nodes → length xs ≤ length nodes
 first-few text [] nodes are = omega arith
 first-few text (x ∷ xs) [] are = absurd are
 first-few text (x ∷ xs) (node ∷ nodes) are = omega (arith, first-few text xs nodes are.1)
 
-first-node : (text : List ℕ) (x : Item) (xs : List Item) (nodes : List Node) (d : Node) → AreFirst text (x ∷ xs) nodes
+first-node : (text : List ℕ) (x : Item) (xs : List Item) (nodes : List Cell) (d : Cell) → AreFirst text (x ∷ xs) nodes
     → IsNodeOf text (get_or nodes 0 d) x
 first-node text x xs [] d are = absurd are
 first-node text x xs (node ∷ nodes) d are = are.0
 
-pub front-at : (nodes : List Node) (text : List ℕ) (i : ℕ) (xs ys : List Item) → AreAt nodes text i (xs ++ ys) → AreAt nodes text i xs
+pub front-at : (nodes : List Cell) (text : List ℕ) (i : ℕ) (xs ys : List Item) → AreAt nodes text i (xs ++ ys) → AreAt nodes text i xs
 front-at nodes text i xs ys a = first-front text xs ys (drop i nodes) a
 
-pub back-at : (nodes : List Node) (text : List ℕ) (i : ℕ) (xs ys : List Item) → AreAt nodes text i (xs ++ ys)
+pub back-at : (nodes : List Cell) (text : List ℕ) (i : ℕ) (xs ys : List Item) → AreAt nodes text i (xs ++ ys)
     → AreAt nodes text (i + length xs) ys
 back-at nodes text i xs ys a = subst (AreFirst text ys) (drop-drop (length xs) i nodes) (first-back text xs ys (drop i nodes) a)
 
 -- all lie within the nodes
-pub within-at : (nodes : List Node) (text : List ℕ) (i : ℕ) (x : Item) (ns : List Item) → AreAt nodes text i (x ∷ ns)
+pub within-at : (nodes : List Cell) (text : List ℕ) (i : ℕ) (x : Item) (ns : List Item) → AreAt nodes text i (x ∷ ns)
     → i + length (x ∷ ns) ≤ length nodes
 within-at nodes text i x ns a = omega (arith, length-drop i nodes, first-few text (x ∷ ns) (drop i nodes) a)
 
 -- ---- the first node, and its text
 
-pub node-at : (nodes : List Node) (text : List ℕ) (i : ℕ) (x : Item) (ns : List Item) (d : Node) → AreAt nodes text i (x ∷ ns)
+pub node-at : (nodes : List Cell) (text : List ℕ) (i : ℕ) (x : Item) (ns : List Item) (d : Cell) → AreAt nodes text i (x ∷ ns)
     → IsNodeOf text (get_or nodes i d) x
 node-at nodes text i x ns d a =
     let here : i + 0 ≡ i = omega arith in
     subst (λ n. IsNodeOf text n x) (get_or-drop i nodes 0 d ∙ ap (λ k. get_or nodes k d) here) (first-node text x ns (drop i nodes) d a)
 
-pub key-of : (text : List ℕ) (node : Node) (k : List ℕ) → IsNodeOf text node (string_item k)
+pub key-of : (text : List ℕ) (node : Cell) (k : List ℕ) → IsNodeOf text node (string_item k)
     → (node.len ≡ length k) × (node.len ≤ length text - node.value) × (take node.len (drop node.value text) ≡ k)
 key-of text node k is =
-    let len : node.len ≡ length is.part = ap (λ (n : Node). n.len) is.node_is in
-    let at : node.value ≡ is.at = ap (λ (n : Node). n.value) is.node_is in (
+    let len : node.len ≡ length is.part = ap (λ (n : Cell). n.len) is.node_is in
+    let at : node.value ≡ is.at = ap (λ (n : Cell). n.value) is.node_is in (
       len ∙ ap length is.is_text,
       omega (
         arith,
@@ -91,7 +91,7 @@ key-of text node k is =
 
 -- ---- headers
 
-static-kind : (at len : ℕ) (s : StaticNode) → (static_node at len s).kind < 8
+static-kind : (at len : ℕ) (s : StaticNode) → (static_cell at len s).kind < 8
 static-kind at len fixed.Null = omega arith
 static-kind at len (fixed.Bool false) = omega arith
 static-kind at len (fixed.Bool true) = omega arith
@@ -101,7 +101,7 @@ static-kind at len (fixed.I128 z) = omega arith
 static-kind at len (fixed.U128 n) = omega arith
 
 -- what the header of a document says
-pub record Header (d : Document) (node : Node) : Type 0 where
+pub record Header (d : Document) (node : Cell) : Type 0 where
   pub scalar : node.kind < 8 → length (listing d) ≡ 1
   pub beneath : 8 ≤ node.kind → suc node.value ≡ length (listing d)
   pub of_array : node.kind ≡ 8 → (ds : Elements) × (d ≡ array ds) × (node.len ≡ length (elements ds))
@@ -109,7 +109,7 @@ pub record Header (d : Document) (node : Node) : Type 0 where
   pub of_other : node.kind ≢ 8 → node.kind ≢ 9 → (t : List ℕ) → result_ok (named t d) ≡ None
   pub keyless : node.kind ≢ 9 → (key : List ℕ) → get key d ≡ None
 
-scalar-header : (d : Document) (node : Node) → length (listing d) ≡ 1 → node.kind < 8
+scalar-header : (d : Document) (node : Cell) → length (listing d) ≡ 1 → node.kind < 8
     → ((t : List ℕ) → (result_ok (named t d) ≡ None) × (get t d ≡ None)) → Header d node
 scalar-header d node one small none = record {
   scalar = λ less. one;
@@ -143,17 +143,17 @@ headed (string t) = refl
 headed (array ds) = refl
 headed (object ms) = refl
 
-header-of : (at len : ℕ) (d : Document) → Header d (item_node at len (head d))
-header-of at len null = scalar-header null (item_node at len (head null)) refl (static-kind at len fixed.Null) (λ t. (refl, refl))
+header-of : (at len : ℕ) (d : Document) → Header d (item_cell at len (head d))
+header-of at len null = scalar-header null (item_cell at len (head null)) refl (static-kind at len fixed.Null) (λ t. (refl, refl))
 header-of at len (boolean b) =
-    scalar-header (boolean b) (item_node at len (head (boolean b))) refl (static-kind at len (fixed.Bool b)) (λ t. (refl, refl))
+    scalar-header (boolean b) (item_cell at len (head (boolean b))) refl (static-kind at len (fixed.Bool b)) (λ t. (refl, refl))
 header-of at len (integer minus n) =
-    scalar-header (integer minus n) (item_node at len (head (integer minus n))) refl (static-kind at len (integer_node minus n))
+    scalar-header (integer minus n) (item_cell at len (head (integer minus n))) refl (static-kind at len (integer_node minus n))
     (λ t. (refl, refl))
 header-of at len (decimal l) =
-    scalar-header (decimal l) (item_node at len (head (decimal l))) refl (omega arith) (λ t. (refl, refl))
+    scalar-header (decimal l) (item_cell at len (head (decimal l))) refl (omega arith) (λ t. (refl, refl))
 header-of at len (string t) =
-    scalar-header (string t) (item_node at len (head (string t))) refl (omega arith) (λ u. (refl, refl))
+    scalar-header (string t) (item_cell at len (head (string t))) refl (omega arith) (λ u. (refl, refl))
 header-of at len (array ds) = record {
   scalar = λ less. absurd (omega (arith, less));
   beneath = λ more. refl;
@@ -171,7 +171,7 @@ header-of at len (object ms) = record {
   keyless = λ no key. absurd (no refl);
 }
 
-pub value-header : (nodes : List Node) (text : List ℕ) (i : ℕ) (d : Document) (n : Node) → IsValueAt nodes text i d
+pub value-header : (nodes : List Cell) (text : List ℕ) (i : ℕ) (d : Document) (n : Cell) → IsValueAt nodes text i d
     → Header d (get_or nodes i n)
 value-header nodes text i d n a =
     let is = node-at nodes text i (head d) (rest d) n (subst (AreAt nodes text i) (headed d) a) in
@@ -182,14 +182,14 @@ len-by : (t : Bool) (k v b len : ℕ) → nat_lt k 8 ≡ t → (k < 8 → len �
 len-by true k v b len is scalar beneath above below = let less = ltb-true k 8 is in omega (arith, scalar less, below less)
 len-by false k v b len is scalar beneath above below = let more = ltb-false k 8 is in omega (arith, beneath more, above more)
 
-pub value-len : (nodes : List Node) (text : List ℕ) (i : ℕ) (d : Document) (n : Node) (b : ℕ) → IsValueAt nodes text i d
+pub value-len : (nodes : List Cell) (text : List ℕ) (i : ℕ) (d : Document) (n : Cell) (b : ℕ) → IsValueAt nodes text i d
     → (8 ≤ (get_or nodes i n).kind → b ≡ (get_or nodes i n).value) → ((get_or nodes i n).kind < 8 → b ≡ 0) → b + 1 ≡ length (listing d)
 value-len nodes text i d n b a above below =
     let h = value-header nodes text i d n a in
     let k = (get_or nodes i n).kind in
     len-by (nat_lt k 8) k (get_or nodes i n).value b (length (listing d)) refl h.scalar h.beneath above below
 
-pub value-within : (nodes : List Node) (text : List ℕ) (i : ℕ) (d : Document) → IsValueAt nodes text i d
+pub value-within : (nodes : List Cell) (text : List ℕ) (i : ℕ) (d : Document) → IsValueAt nodes text i d
     → i + length (listing d) ≤ length nodes
 value-within nodes text i d a =
     let b = subst (AreAt nodes text i) (headed d) a in
@@ -200,34 +200,34 @@ value-some d = omega (arith, ap length (headed d))
 
 -- ---- what lies beneath
 
-pub elements-at : (nodes : List Node) (text : List ℕ) (i : ℕ) (ds : Elements) → IsValueAt nodes text i (array ds)
+pub elements-at : (nodes : List Cell) (text : List ℕ) (i : ℕ) (ds : Elements) → IsValueAt nodes text i (array ds)
     → AreAt nodes text (i + 1) (elements_listing ds)
 elements-at nodes text i ds a = back-at nodes text i (head (array ds) ∷ []) (elements_listing ds) a
 
-pub members-at : (nodes : List Node) (text : List ℕ) (i : ℕ) (ms : Members) → IsValueAt nodes text i (object ms)
+pub members-at : (nodes : List Cell) (text : List ℕ) (i : ℕ) (ms : Members) → IsValueAt nodes text i (object ms)
     → AreAt nodes text (i + 1) (members_listing ms)
 members-at nodes text i ms a = back-at nodes text i (head (object ms) ∷ []) (members_listing ms) a
 
-pub member-value : (nodes : List Node) (text : List ℕ) (i : ℕ) (k : List ℕ) (d : Document) (ms : Members)
+pub member-value : (nodes : List Cell) (text : List ℕ) (i : ℕ) (k : List ℕ) (d : Document) (ms : Members)
     → AreAt nodes text i (members_listing (member k d ms)) → IsValueAt nodes text (i + 1) d
 member-value nodes text i k d ms a =
     front-at nodes text (i + 1) (listing d) (members_listing ms)
     (back-at nodes text i (string_item k ∷ []) (listing d ++ members_listing ms) a)
 
-pub member-after : (nodes : List Node) (text : List ℕ) (i : ℕ) (k : List ℕ) (d : Document) (ms : Members)
+pub member-after : (nodes : List Cell) (text : List ℕ) (i : ℕ) (k : List ℕ) (d : Document) (ms : Members)
     → AreAt nodes text i (members_listing (member k d ms)) → AreAt nodes text (i + 1 + length (listing d)) (members_listing ms)
 member-after nodes text i k d ms a =
     back-at nodes text (i + 1) (listing d) (members_listing ms)
     (back-at nodes text i (string_item k ∷ []) (listing d ++ members_listing ms) a)
 
 -- what is left of the elements after some of them, of which the first lies at an index
-pub record ElementsLeft (nodes : List Node) (text : List ℕ) (ds : Elements) (first passed at : ℕ) : Type 0 where
+pub record ElementsLeft (nodes : List Cell) (text : List ℕ) (ds : Elements) (first passed at : ℕ) : Type 0 where
   pub left : Elements
   pub placed : AreAt nodes text at (elements_listing left)
   pub are : elements left ≡ drop passed (elements ds)
   pub before : (k : ℕ) → at + before_element left k ≡ first + before_element ds (passed + k)
 
-pub elements-all : (nodes : List Node) (text : List ℕ) (ds : Elements) (at : ℕ) → AreAt nodes text at (elements_listing ds)
+pub elements-all : (nodes : List Cell) (text : List ℕ) (ds : Elements) (at : ℕ) → AreAt nodes text at (elements_listing ds)
     → ElementsLeft nodes text ds at 0 at
 elements-all nodes text ds at a = record {
   left = ds;
@@ -237,14 +237,14 @@ elements-all nodes text ds at a = record {
 }
 
 -- the next of them
-pub record NextElement (nodes : List Node) (text : List ℕ) (ds : Elements) (first passed at : ℕ) : Type 0 where
+pub record NextElement (nodes : List Cell) (text : List ℕ) (ds : Elements) (first passed at : ℕ) : Type 0 where
   pub value : Document
   pub placed : IsValueAt nodes text at value
   pub is : slice_get (elements ds) passed ≡ Some value
   pub here : at ≡ first + before_element ds passed
   pub after : ElementsLeft nodes text ds first (passed + 1) (at + length (listing value))
 
-next-by : (nodes : List Node) (text : List ℕ) (ds : Elements) (first passed at : ℕ) (left : Elements)
+next-by : (nodes : List Cell) (text : List ℕ) (ds : Elements) (first passed at : ℕ) (left : Elements)
     → AreAt nodes text at (elements_listing left) → elements left ≡ drop passed (elements ds)
     → ((k : ℕ) → at + before_element left k ≡ first + before_element ds (passed + k))
     → passed < length (elements ds) → NextElement nodes text ds first passed at
@@ -273,7 +273,7 @@ next-by nodes text ds first passed at (element d es) a are before less =
       };
     }
 
-pub next-element : (nodes : List Node) (text : List ℕ) (ds : Elements) (first passed at : ℕ)
+pub next-element : (nodes : List Cell) (text : List ℕ) (ds : Elements) (first passed at : ℕ)
     → ElementsLeft nodes text ds first passed at → passed < length (elements ds) → NextElement nodes text ds first passed at
 next-element nodes text ds first passed at l less = next-by nodes text ds first passed at l.left l.placed l.are l.before less
 
@@ -306,34 +306,34 @@ before-later k key d es other = before-by (bytes_eq k key) k key _ (bytes_eq-Dec
 abbrev pub found_by : Option (List ℕ) → Members → Option Document
 found_by u ms = result_ok (member_at ms u)
 
-pub key-is : (is_plain : Bool) (t : List ℕ) → (is_plain ≡ true → IsPlain t) → key_of is_plain t ≡ unescaped t
+pub key-is : (is_plain : Bool) (t : List ℕ) → (is_plain ≡ true → IsPlain t) → token_key is_plain t ≡ unescaped t
 key-is true t plain = sym (unescaped-plain t (plain refl))
 key-is false t plain = refl
 
 -- what is left of the pairs, of which those before have other keys than the one that is sought, and the first lies at an index
-pub record MembersLeft (nodes : List Node) (text : List ℕ) (u : Option (List ℕ)) (ms : Members) (len first passed at : ℕ) : Type 0 where
+pub record MembersLeft (nodes : List Cell) (text : List ℕ) (u : Option (List ℕ)) (ms : Members) (len first passed at : ℕ) : Type 0 where
   pub left : Members
   pub placed : AreAt nodes text at (members_listing left)
   pub count : passed + length (members left) ≡ len
   pub same : found_by u left ≡ found_by u ms
   pub before : (key : List ℕ) → u ≡ Some key → at + before_member left key ≡ first + before_member ms key
 
-pub members-all : (nodes : List Node) (text : List ℕ) (u : Option (List ℕ)) (ms : Members) (len at : ℕ)
+pub members-all : (nodes : List Cell) (text : List ℕ) (u : Option (List ℕ)) (ms : Members) (len at : ℕ)
     → AreAt nodes text at (members_listing ms) → len ≡ length (members ms) → MembersLeft nodes text u ms len at 0 at
 members-all nodes text u ms len at a is =
     record { left = ms; placed = a; count = omega (arith, is); same = refl; before = λ key named. refl }
 
-pub members-none : (nodes : List Node) (text : List ℕ) (u : Option (List ℕ)) (ms : Members) (len first passed at : ℕ)
+pub members-none : (nodes : List Cell) (text : List ℕ) (u : Option (List ℕ)) (ms : Members) (len first passed at : ℕ)
     → MembersLeft nodes text u ms len first passed at → len ≤ passed → found_by u ms ≡ None
 members-none nodes text u ms len first passed at l past =
     sym l.same ∙ member-none u l.left (empty (members l.left) (omega (arith, l.count, past)))
 
 -- any node
-abbrev pub some_node : Node
-some_node = span 0 0 0
+abbrev pub some_node : Cell
+some_node = cell_with 0 0 0
 
 -- the next pair, whose key has this node
-pub record NextMember (nodes : List Node) (text : List ℕ) (u : Option (List ℕ)) (ms : Members) (len first passed at : ℕ) (node : Node)
+pub record NextMember (nodes : List Cell) (text : List ℕ) (u : Option (List ℕ)) (ms : Members) (len first passed at : ℕ) (node : Cell)
     : Type 0 where
   pub key : List ℕ
   pub value : Document
@@ -345,7 +345,7 @@ pub record NextMember (nodes : List Node) (text : List ℕ) (u : Option (List �
   pub before : u ≡ Some key → at + 1 ≡ first + before_member ms (unwrap_or u [])
   pub later : (u ≡ Some key → ⊥) → MembersLeft nodes text u ms len first (passed + 1) (at + 1 + length (listing value))
 
-next-member-by : (nodes : List Node) (text : List ℕ) (u : Option (List ℕ)) (ms : Members) (len first passed at : ℕ) (n : Node)
+next-member-by : (nodes : List Cell) (text : List ℕ) (u : Option (List ℕ)) (ms : Members) (len first passed at : ℕ) (n : Cell)
     (left : Members) → AreAt nodes text at (members_listing left) → passed + length (members left) ≡ len → found_by u left ≡ found_by u ms
     → ((key : List ℕ) → u ≡ Some key → at + before_member left key ≡ first + before_member ms key) → passed < len
     → (at < length nodes) × NextMember nodes text u ms len first passed at (get_or nodes at n)
@@ -380,7 +380,7 @@ next-member-by nodes text u ms len first passed at n (member k d es) a count sam
       next,
     )
 
-pub next-member : (nodes : List Node) (text : List ℕ) (u : Option (List ℕ)) (ms : Members) (len first passed at : ℕ) (n : Node)
+pub next-member : (nodes : List Cell) (text : List ℕ) (u : Option (List ℕ)) (ms : Members) (len first passed at : ℕ) (n : Cell)
     → MembersLeft nodes text u ms len first passed at → passed < len
     → (at < length nodes) × NextMember nodes text u ms len first passed at (get_or nodes at n)
 next-member nodes text u ms len first passed at n l less =

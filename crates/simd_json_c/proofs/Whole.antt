@@ -15,8 +15,8 @@ use Rattle.simd_json.specs.KeptSpans.{AreFormed}
 use Rattle.simd_json.specs.Parsed.{IsParseResult}
 use Rattle.simd_json_stages.specs.Placed.{LiesIn, Placed}
 use Rattle.simd_json_c.specs.Lent.{AreKept}
-use Rattle.simd_json_c.specs.Nodes.{cut, cut_of, item_node, node_of}
-use Rattle.simd_json_c.specs.declared.nodes.Node.{Node}
+use Rattle.simd_json_c.specs.Cells.{cut, cut_of, item_cell, cell_at}
+use Rattle.simd_json_c.specs.declared.cells.Cell.{Cell}
 use Rattle.simd_json_c.proofs.Placing.{value-some}
 
 -- a header has so few members
@@ -33,10 +33,10 @@ short-append : (xs ys : List Item) → AreShort xs → AreShort ys → AreShort 
 short-append [] ys front back = back
 short-append (x ∷ xs) ys front back = (front.0, short-append xs ys front.1 back)
 
-cut-same : (n : Node) → n.len < 2 ^ 32 → cut n ≡ n
+cut-same : (n : Cell) → n.len < 2 ^ 32 → cut n ≡ n
 cut-same n less = ap (λ l. record n { len = l }) (mod-eq_of_lt less)
 
-node-short : (at len : ℕ) (x : Item) → len < 2 ^ 32 → IsShort x → (item_node at len x).len < 2 ^ 32
+node-short : (at len : ℕ) (x : Item) → len < 2 ^ 32 → IsShort x → (item_cell at len x).len < 2 ^ 32
 node-short at len (static_item fixed.Null) few short = omega arith
 node-short at len (static_item (fixed.Bool true)) few short = omega arith
 node-short at len (static_item (fixed.Bool false)) few short = omega arith
@@ -50,13 +50,13 @@ node-short at len (array_item size count) few short = short
 node-short at len (object_item size count) few short = short
 
 cut-short : (bytes : List ℕ) (ps : List Placed) → length bytes < 2 ^ 32 → All (LiesIn bytes) ps
-    → AreShort (map (λ (p : Placed). p.item) ps) → map cut_of ps ≡ map node_of ps
+    → AreShort (map (λ (p : Placed). p.item) ps) → map cut_of ps ≡ map cell_at ps
 cut-short bytes [] few lie short = refl
 cut-short bytes (p ∷ ps) few lie short =
     let here = All-head (LiesIn bytes) p ps lie in
-    ap (λ m. m ∷ map cut_of ps) (cut-same (node_of p)
+    ap (λ m. m ∷ map cut_of ps) (cut-same (cell_at p)
     (node-short p.at (length p.text) p.item (omega (arith, few, here.within)) short.0))
-    ∙ ap (λ r. node_of p ∷ r) (cut-short bytes ps few (All-tail (LiesIn bytes) p ps lie) short.1)
+    ∙ ap (λ r. cell_at p ∷ r) (cut-short bytes ps few (All-tail (LiesIn bytes) p ps lie) short.1)
 
 -- ---- documents
 
@@ -101,7 +101,7 @@ pub some-byte : (b : List ℕ) (limit capacity : ℕ) (ns : List Item) → IsPar
 some-byte b limit capacity ns p =
     omega (arith, value-some p.1.parsed.document, ap length p.1.parsed.listed, p.1.few.0, p.1.few.1)
 
-pub kept-whole : (b bytes : List ℕ) (limit capacity : ℕ) (ps : List Placed) (nodes : List Node)
+pub kept-whole : (b bytes : List ℕ) (limit capacity : ℕ) (ps : List Placed) (nodes : List Cell)
     → IsParseResult b limit capacity None (map (λ (p : Placed). p.item) ps) → length bytes ≡ length b → AreFormed cut_of ps bytes nodes
     → AreKept (map (λ (p : Placed). p.item) ps) bytes nodes × (length nodes ≡ length (map (λ (p : Placed). p.item) ps))
 kept-whole b bytes limit capacity ps nodes p size are =

@@ -13,8 +13,8 @@ IsCheckOf b limit capacity None = (ns : List Item) × IsParsed b limit ns
 IsCheckOf b limit capacity (Some e) = IsRejected b limit e ⊎ (LacksMemory b e × (capacity < length b))
 
 -- what a call returns of it
-abbrev pub IsChecked : List ℕ → ℕ → ℕ → ℤ → ErrorPlace → Type 0
-IsChecked b limit capacity status place =
+abbrev pub IsCheckReported : List ℕ → ℕ → ℕ → ℤ → ErrorPlace → Type 0
+IsCheckReported b limit capacity status place =
     (fault : Option Error) × IsCheckOf b limit capacity fault × (status ≡ error_status fault) × (place ≡ error_place fault)
 
 -- these are at the front, and what was behind them is there still

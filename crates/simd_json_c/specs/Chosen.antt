@@ -13,26 +13,26 @@ use Rattle.simd_json_parts.specs.Printed.{compact, pretty}
 use Rattle.simd_json_parts.specs.declared.error.Error.{Error}
 use Rattle.simd_json_c.specs.Calls.{IsTextPut}
 use Rattle.simd_json_c.specs.Kept.{IsCallWith}
-use Rattle.simd_json_c.specs.Statuses.{error_place, error_status, no_value, out_of_memory}
+use Rattle.simd_json_c.specs.Statuses.{error_place, error_status, no_value_status, out_of_memory}
 use Rattle.simd_json_c.specs.declared.status.ErrorPlace.{ErrorPlace}
 use Rattle.simd_json_c.specs.declared.lists.Lists.{Lists}
 
 -- compact, or with a line for each member
-abbrev pub printed : Bool → Document → List ℕ
-printed false d = compact d
-printed true d = pretty d
+abbrev pub printed_text : Bool → Document → List ℕ
+printed_text false d = compact d
+printed_text true d = pretty d
 
 -- The list for the text had less capacity; or more containers are open at a time than 64, and than there were levels.
 abbrev pub IsTooLittle : ℕ → ℕ → Bool → Document → Type 0
-IsTooLittle capacity levels is_pretty d = (capacity < length (printed is_pretty d)) ⊎ (max 64 levels < depth d)
+IsTooLittle capacity levels is_pretty d = (capacity < length (printed_text is_pretty d)) ⊎ (max 64 levels < depth d)
 
 -- the text of the value that the pointer names is put or has too little room, or an allocation failed; or there is no such value
 unfoldable pub IsChosenPut : ℕ → ℕ → Bool → List ℕ → Document → ℤ → ℕ → ℕ → List ℕ → List ℕ → Type 0
 IsChosenPut capacity levels is_pretty pointer d status old_needed needed old new =
     MatchOption (result_ok (pointed pointer d))
-    ((status ≡ no_value) × (needed ≡ old_needed) × (new ≡ old))
+    ((status ≡ no_value_status) × (needed ≡ old_needed) × (new ≡ old))
     (λ e.
-    IsTextPut (printed is_pretty e) status needed old new
+    IsTextPut (printed_text is_pretty e) status needed old new
     ⊎ ((status ≡ out_of_memory) × (needed ≡ old_needed) × (new ≡ old) × IsTooLittle capacity levels is_pretty e))
 
 -- a parse of b with the lists and their tape, and the lists afterwards
@@ -55,4 +55,4 @@ IsPrintedWith old new b is_pretty pointer status place old_needed needed old_out
     IsCallWith old new status place ((needed ≡ old_needed) × (out ≡ old_out))
     (λ was lists.
     (IsUtf8 pointer × IsPrintOf was lists b is_pretty pointer status place old_needed needed old_out out)
-    ⊎ ((IsUtf8 pointer → ⊥) × (status ≡ no_value) × (place ≡ error_place None) × (needed ≡ old_needed) × (out ≡ old_out)))
+    ⊎ ((IsUtf8 pointer → ⊥) × (status ≡ no_value_status) × (place ≡ error_place None) × (needed ≡ old_needed) × (out ≡ old_out)))

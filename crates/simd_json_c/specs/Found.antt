@@ -19,10 +19,10 @@ use Rattle.simd_json_ondemand.specs.declared.value.Value.{Value}
 use Rattle.simd_json_c.specs.Calls.{IsTextPut}
 use Rattle.simd_json_c.specs.Indexed.{IsUnscanned}
 use Rattle.simd_json_c.specs.Kept.{KeepsRoom, KeepsSource, source_capacity}
-use Rattle.simd_json_c.specs.Statuses.{error_place, error_status, no_value, parser_closed}
-use Rattle.simd_json_c.specs.declared.find.Found.{Found}
+use Rattle.simd_json_c.specs.Statuses.{error_place, error_status, no_value_status, parser_closed}
+use Rattle.simd_json_c.specs.declared.demand.FoundValue.{FoundValue}
 use Rattle.simd_json_c.specs.declared.status.ErrorPlace.{ErrorPlace}
-use Rattle.simd_json_c.specs.declared.source.Source.{Source}
+use Rattle.simd_json_c.specs.declared.scanned.ScannedInput.{ScannedInput}
 use Rattle.simd_json_c.specs.declared.lists.Lists.{Lists}
 
 -- the header's numbers
@@ -39,15 +39,15 @@ kind_number kinds.Array = 8
 kind_number kinds.Object = 9
 
 -- there is no such value
-abbrev pub IsNotFound : ℤ → Found → Found → List ℕ → List ℕ → Type 0
-IsNotFound status old_found found old new = (status ≡ no_value) × (found ≡ old_found) × (new ≡ old)
+abbrev pub IsNotFound : ℤ → FoundValue → FoundValue → List ℕ → List ℕ → Type 0
+IsNotFound status old_found found old new = (status ≡ no_value_status) × (found ≡ old_found) × (new ≡ old)
 
 -- the value's kind, and its bytes as they are written, which are put or have too little room
-abbrev pub IsPutAs : ValueType → List ℕ → ℤ → Found → List ℕ → List ℕ → Type 0
+abbrev pub IsPutAs : ValueType → List ℕ → ℤ → FoundValue → List ℕ → List ℕ → Type 0
 IsPutAs k bytes status found old new = (found.kind ≡ kind_number k) × IsTextPut bytes status found.len old new
 
 -- of a place that has both
-abbrev pub IsValuePut : Value → ℤ → Found → Found → List ℕ → List ℕ → Type 0
+abbrev pub IsValuePut : Value → ℤ → FoundValue → FoundValue → List ℕ → List ℕ → Type 0
 IsValuePut v status old_found found old new =
     MatchOption (kind v) (IsNotFound status old_found found old new)
     (λ k. MatchOption (written v) (IsNotFound status old_found found old new) (λ bytes. IsPutAs k bytes status found old new))
@@ -57,20 +57,20 @@ abbrev pub site_named : List ℕ → List ℕ → Option Site
 site_named pointer b = reached (pointed_at pointer (b, positions b))
 
 -- of the value at that place of b
-abbrev pub IsSitePut : List ℕ → List ℕ → ℤ → Found → Found → List ℕ → List ℕ → Type 0
+abbrev pub IsSitePut : List ℕ → List ℕ → ℤ → FoundValue → FoundValue → List ℕ → List ℕ → Type 0
 IsSitePut b pointer status old_found found old new =
     MatchOption (site_named pointer b) (IsNotFound status old_found found old new)
     (λ s. (v : Value) × (site v ≡ s) × IsValuePut v status old_found found old new)
 
 -- where b is a document, this is the value that the pointer names in it
-abbrev pub IsNamedPut : List ℕ → List ℕ → ℤ → Found → Found → List ℕ → List ℕ → Type 0
+abbrev pub IsNamedPut : List ℕ → List ℕ → ℤ → FoundValue → FoundValue → List ℕ → List ℕ → Type 0
 IsNamedPut b pointer status old_found found old new = (d : Document) (limit : ℕ) → answer b limit ≡ Ok d
     → MatchOption (result_ok (pointed pointer d)) (IsNotFound status old_found found old new)
     (λ e. (v : Value) × (site_named pointer b ≡ Some (site v)) × (doc v ≡ Some e)
     × ((bytes : List ℕ) × (written v ≡ Some bytes) × IsPutAs (value_type e) bytes status found old new))
 
 -- in the input that is kept, or in none
-abbrev pub IsFoundIn : Source → List ℕ → ℤ → Found → Found → List ℕ → List ℕ → Type 0
+abbrev pub IsFoundIn : ScannedInput → List ℕ → ℤ → FoundValue → FoundValue → List ℕ → List ℕ → Type 0
 IsFoundIn source pointer status old_found found old new =
     (source.is_scanned ≡ false → IsNotFound status old_found found old new)
     × ((IsUtf8 pointer → ⊥) → IsNotFound status old_found found old new)
@@ -79,7 +79,7 @@ IsFoundIn source pointer status old_found found old new =
     × IsNamedPut source.bytes.items pointer status old_found found old new)
 
 -- a call that finds a value with a parser, which stays as it is
-abbrev pub IsFoundWith : Option Lists → Option Lists → List ℕ → ℤ → Found → Found → List ℕ → List ℕ → Type 0
+abbrev pub IsFoundWith : Option Lists → Option Lists → List ℕ → ℤ → FoundValue → FoundValue → List ℕ → List ℕ → Type 0
 IsFoundWith old new pointer status old_found found old_out out =
     (new ≡ old)
     × MatchOption old

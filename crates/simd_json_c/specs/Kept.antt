@@ -8,9 +8,9 @@ use Rattle.simd_json_check.specs.Checkers.{KeepsChecker, check_capacity, new_che
 use Rattle.simd_json_parts.specs.Nodes.{Item}
 use Rattle.simd_json_parts.specs.declared.error.Error.{Error}
 use Rattle.simd_json_c.specs.Statuses.{out_of_memory, parser_closed, error_place}
-use Rattle.simd_json_c.specs.Calls.{IsChecked}
+use Rattle.simd_json_c.specs.Calls.{IsCheckReported}
 use Rattle.simd_json_c.specs.declared.lists.Lists.{Lists}
-use Rattle.simd_json_c.specs.declared.source.Source.{Source}
+use Rattle.simd_json_c.specs.declared.scanned.ScannedInput.{ScannedInput}
 use Rattle.simd_json_c.specs.declared.status.ErrorPlace.{ErrorPlace}
 
 -- within the same limit, and no capacity is given up
@@ -22,11 +22,11 @@ KeepsRoom old new =
     × (vec_capacity old.nodes ≤ vec_capacity new.nodes)
 
 -- nor of the lists for an input that is kept
-abbrev pub KeepsSource : Source → Source → Type 0
+abbrev pub KeepsSource : ScannedInput → ScannedInput → Type 0
 KeepsSource old new = lists.IsNoShorter old.index new.index × (vec_capacity old.bytes ≤ vec_capacity new.bytes)
 
 -- for an input of how many bytes these have capacity
-abbrev pub source_capacity : Source → ℕ
+abbrev pub source_capacity : ScannedInput → ℕ
 source_capacity s = min (lists.capacity s.index) (vec_capacity s.bytes)
 
 -- and the input that is kept, if one is
@@ -56,4 +56,4 @@ IsCallWith old new status place Same Is =
 abbrev pub IsCheckedWith : Option Lists → Option Lists → List ℕ → ℤ → ErrorPlace → Type 0
 IsCheckedWith old new b status place =
     IsCallWith old new status place ⊤
-    (λ was lists. IsChecked b was.buffers.limit (check_capacity was.buffers.limit was.checker) status place)
+    (λ was lists. IsCheckReported b was.buffers.limit (check_capacity was.buffers.limit was.checker) status place)

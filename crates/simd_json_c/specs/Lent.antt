@@ -7,18 +7,18 @@ use Rattle.simd_json_parts.specs.Nodes.{Item}
 use Rattle.simd_json_parts.specs.declared.error.Error.{Error}
 use Rattle.simd_json_stages.specs.Placed.{LiesIn, Placed}
 use Rattle.simd_json_c.specs.Kept.{IsCallWith, IsReadWith}
-use Rattle.simd_json_c.specs.Nodes.{node_of}
+use Rattle.simd_json_c.specs.Cells.{cell_at}
 use Rattle.simd_json_c.specs.Statuses.{error_place, error_status, out_of_memory}
 use Rattle.simd_json_c.specs.declared.lent.Lent.{Lent}
-use Rattle.simd_json_c.specs.declared.nodes.Node.{Node}
+use Rattle.simd_json_c.specs.declared.cells.Cell.{Cell}
 use Rattle.simd_json_c.specs.declared.status.ErrorPlace.{ErrorPlace}
 use Rattle.simd_json_c.specs.declared.lists.Lists.{Lists}
 
 -- the nodes of these items, whose texts lie in the bytes at their places
-pub record AreKept (ns : List Item) (bytes : List ℕ) (nodes : List Node) : Type 0 where
+pub record AreKept (ns : List Item) (bytes : List ℕ) (nodes : List Cell) : Type 0 where
   pub placed : List Placed
   pub items : map (λ p. p.item) placed ≡ ns
-  pub nodes_are : nodes ≡ map node_of placed
+  pub nodes_are : nodes ≡ map cell_at placed
   pub texts : All (LiesIn bytes) placed
 
 -- where nodes and input are, and how many

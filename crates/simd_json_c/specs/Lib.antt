@@ -1,5 +1,5 @@
 pub mod Statuses
-pub mod Nodes
+pub mod Cells
 pub mod Calls
 pub mod Indexed
 pub mod Names
@@ -11,3 +11,5 @@ pub mod Chosen
 pub mod Lent
 pub mod Found
 pub mod Doubles
+pub mod Integers
+pub mod Printable

@@ -8,29 +8,29 @@ use Rattle.simd_json_parts.specs.Listing.{listing}
 use Rattle.simd_json_parts.specs.Nodes.{Item}
 use Rattle.simd_json_parts.specs.Pointed.{array_index, named, unescaped}
 use Rattle.simd_json_stages.specs.Placed.{IsTextOf}
-use Rattle.simd_json_c.specs.Nodes.{item_node}
-use Rattle.simd_json_c.specs.declared.nodes.Node.{Node}
+use Rattle.simd_json_c.specs.Cells.{item_cell}
+use Rattle.simd_json_c.specs.declared.cells.Cell.{Cell}
 
 -- a node is that of an item, and the item's text, if it has one, lies where the node says
-pub record IsNodeOf (text : List ℕ) (node : Node) (item : Item) : Type 0 where
+pub record IsNodeOf (text : List ℕ) (node : Cell) (item : Item) : Type 0 where
   pub at : ℕ
   pub part : List ℕ
-  pub node_is : node ≡ item_node at (length part) item
+  pub node_is : node ≡ item_cell at (length part) item
   pub there : take (length part) (drop at text) ≡ part
   pub is_text : IsTextOf item part
 
 -- the nodes begin with those of the items
-abbrev pub AreFirst : List ℕ → List Item → List Node → Type 0
+abbrev pub AreFirst : List ℕ → List Item → List Cell → Type 0
 AreFirst text [] nodes = ⊤
 AreFirst text (x ∷ ns) [] = ⊥
 AreFirst text (x ∷ ns) (node ∷ nodes) = IsNodeOf text node x × AreFirst text ns nodes
 
 -- these lie at an index of the nodes
-abbrev pub AreAt : List Node → List ℕ → ℕ → List Item → Type 0
+abbrev pub AreAt : List Cell → List ℕ → ℕ → List Item → Type 0
 AreAt nodes text i ns = AreFirst text ns (drop i nodes)
 
 -- a value lies there
-abbrev pub IsValueAt : List Node → List ℕ → ℕ → Document → Type 0
+abbrev pub IsValueAt : List Cell → List ℕ → ℕ → Document → Type 0
 IsValueAt nodes text i d = AreAt nodes text i (listing d)
 
 -- ---- how many nodes of a value stand before one that is in it
@@ -65,16 +65,16 @@ abbrev pub before_pointed : List ℕ → Document → ℕ
 before_pointed pointer d = before_followed (tokens_after pointer) d
 
 -- the key that a token is: as it stands, or with its escapes decoded
-abbrev pub key_of : Bool → List ℕ → Option (List ℕ)
-key_of is_plain t = if is_plain then Some t else unescaped t
+abbrev pub token_key : Bool → List ℕ → Option (List ℕ)
+token_key is_plain t = if is_plain then Some t else unescaped t
 
 -- ---- what is returned
 
 -- the index that is returned, which the greatest number is not
-abbrev pub index_of : ℕ → Option ℕ
-index_of i = if i == 2 ^ 64 - 1 then None else Some i
+abbrev pub found_index : ℕ → Option ℕ
+found_index i = if i == 2 ^ 64 - 1 then None else Some i
 
 -- the value lies at the index, which is `place`, or there is none
-abbrev pub IsFound : List Node → List ℕ → Option ℕ → ℕ → Option Document → Type 0
+abbrev pub IsFound : List Cell → List ℕ → Option ℕ → ℕ → Option Document → Type 0
 IsFound nodes text None place value = value ≡ None
 IsFound nodes text (Some i) place value = (d : Document) × (value ≡ Some d) × (i ≡ place) × IsValueAt nodes text i d

@@ -58,5 +58,5 @@ abbrev pub parser_closed : ℤ
 parser_closed = pos 20
 
 -- a pointer names no value
-abbrev pub no_value : ℤ
-no_value = pos 21
+abbrev pub no_value_status : ℤ
+no_value_status = pos 21

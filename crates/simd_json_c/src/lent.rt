@@ -3,7 +3,7 @@
 ghost use Rattle.std.specs.Ptr.{as_mut_ptr};
 ghost use Rattle.simd_json_c.specs.Lent.{IsParsedWith};
 
-use crate::nodes::Node;
+use crate::cells::Cell;
 use crate::parser::Parser;
 use crate::status::{ErrorPlace, PARSER_CLOSED, reported};
 use std::alloc::Global;
@@ -14,7 +14,7 @@ use std::mem::replace;
 #[derive(Clone, Copy, Drop)]
 pub struct Lent {
     /// The nodes.
-    pub nodes: *const Node,
+    pub nodes: *const Cell,
     /// How many there are.
     pub nodes_len: usize,
     /// The input, in which the texts of strings and literals are.

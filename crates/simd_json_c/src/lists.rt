@@ -8,16 +8,16 @@ ghost use Rattle.simd_json_check.specs.Checkers.{KeepsChecker, check_capacity};
 ghost use Rattle.simd_json_parts.specs.Document.{Document};
 ghost use Rattle.simd_json_parts.specs.Listing.{listing};
 ghost use Rattle.simd_json_parts.specs.Nodes.{Item};
-ghost use Rattle.simd_json_c.specs.Calls.{IsCheckOf, IsChecked};
+ghost use Rattle.simd_json_c.specs.Calls.{IsCheckOf, IsCheckReported};
 ghost use Rattle.simd_json_c.specs.Chosen.{IsChosenPut, IsTapedWith};
 ghost use Rattle.simd_json_c.specs.Kept.{AreNew, IsReadWith, KeepsLists};
 ghost use Rattle.simd_json_c.specs.Lent.{AreLent};
-ghost use Rattle.simd_json_c.specs.Statuses.{no_value};
+ghost use Rattle.simd_json_c.specs.Statuses.{no_value_status};
 
 use crate::lent::Lent;
-use crate::nodes::Node;
+use crate::cells::Cell;
 use crate::print::print_at;
-use crate::source::Source;
+use crate::scanned::ScannedInput;
 use crate::status::{ErrorPlace, NO_VALUE, OUT_OF_MEMORY, reported};
 use simd_json::{Buffers, Result, Tape, keep_spans, refill_tape};
 use simd_json_check::Checker;
@@ -33,7 +33,7 @@ pub extern "C" fn simd_json_check(
     max_depth: usize,
     place: &mut ErrorPlace,
 ) -> i32
-    ensures { IsChecked input.now max_depth 0 result place.new }
+    ensures { IsCheckReported input.now max_depth 0 result place.new }
 {
     let mut checker = Checker::empty(alloc);
     reported(check(&mut checker, input, max_depth), place)
@@ -65,9 +65,9 @@ pub struct Lists {
     // what is open while it is printed, past a few containers
     pub(crate) levels: Vec<Level>,
     // the nodes that are lent
-    pub(crate) nodes: Vec<Node>,
+    pub(crate) nodes: Vec<Cell>,
     // the input in which values are found
-    pub(crate) source: Source,
+    pub(crate) source: ScannedInput,
 }
 
 impl Lists {
@@ -82,7 +82,7 @@ impl Lists {
             printed: Vec::new(alloc),
             levels: Vec::new(alloc),
             nodes: Vec::new(alloc),
-            source: Source::new(alloc),
+            source: ScannedInput::new(alloc),
         }
     }
 
@@ -155,7 +155,7 @@ impl Lists {
             × IsTapedWith self.old input.old None ns self.new × (listing d ≡ ns)
             × IsChosenPut (vec_capacity self.old.printed) (length self.old.levels.items)
             is_pretty pointer.now d status needed.old needed.new out.old out.new))
-            ⊎ ((IsUtf8 pointer.now → ⊥) × (status ≡ no_value)
+            ⊎ ((IsUtf8 pointer.now → ⊥) × (status ≡ no_value_status)
             × (needed.new ≡ needed.old) × (out.new ≡ out.old))) }
         ensures rejected { IfErr result (λ e. IsUtf8 pointer.now × ((ns : List Item)
             × IsTapedWith self.old input.old (Some e) ns self.new

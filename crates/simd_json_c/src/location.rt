@@ -5,7 +5,8 @@ ghost use Rattle.simd_json_check.specs.Messages.{reason_text};
 ghost use Rattle.simd_json_c.specs.Located.{IsLocated, error_with, kind_with, position_of};
 
 use crate::print::lend_text;
-use crate::status::ErrorPlace;
+use crate::status;
+use crate::status::{ErrorPlace, OK};
 use simd_json::{Error, ErrorType, Result};
 use simd_json_check::{Location, Reason};
 use std::alloc::Global;
@@ -13,7 +14,7 @@ use std::alloc::Global;
 /// A place in an input, for people.
 #[repr(C)]
 #[derive(Clone, Copy, Drop)]
-pub struct Position {
+pub struct InputPosition {
     /// The byte offset.
     pub byte: usize,
     /// The line: from 1, by line feeds.
@@ -27,24 +28,24 @@ fn kind_with(status: i32) -> Option<ErrorType>
     ensures { result ≡ kind_with status }
 {
     let kind = match status {
-        1 => ErrorType::OutOfMemory,
-        2 => ErrorType::InputTooLarge,
-        3 => ErrorType::InvalidUtf8,
-        4 => ErrorType::Syntax,
-        5 => ErrorType::Eof,
-        6 => ErrorType::InternalError,
-        7 => ErrorType::ExpectedArrayContent,
-        8 => ErrorType::ExpectedObjectContent,
-        9 => ErrorType::ExpectedObjectKey,
-        10 => ErrorType::ExpectedObjectColon,
-        11 => ErrorType::TrailingData,
-        12 => ErrorType::DepthLimitExceeded,
-        13 => ErrorType::ExpectedTrue,
-        14 => ErrorType::ExpectedFalse,
-        15 => ErrorType::ExpectedNull,
-        16 => ErrorType::InvalidNumber,
-        17 => ErrorType::InvalidEscape,
-        18 => ErrorType::InvalidUnicodeCodepoint,
+        status::OUT_OF_MEMORY => ErrorType::OutOfMemory,
+        status::INPUT_TOO_LARGE => ErrorType::InputTooLarge,
+        status::INVALID_UTF8 => ErrorType::InvalidUtf8,
+        status::SYNTAX => ErrorType::Syntax,
+        status::EOF => ErrorType::Eof,
+        status::INTERNAL_ERROR => ErrorType::InternalError,
+        status::EXPECTED_ARRAY_CONTENT => ErrorType::ExpectedArrayContent,
+        status::EXPECTED_OBJECT_CONTENT => ErrorType::ExpectedObjectContent,
+        status::EXPECTED_OBJECT_KEY => ErrorType::ExpectedObjectKey,
+        status::EXPECTED_OBJECT_COLON => ErrorType::ExpectedObjectColon,
+        status::TRAILING_DATA => ErrorType::TrailingData,
+        status::DEPTH_LIMIT_EXCEEDED => ErrorType::DepthLimitExceeded,
+        status::EXPECTED_TRUE => ErrorType::ExpectedTrue,
+        status::EXPECTED_FALSE => ErrorType::ExpectedFalse,
+        status::EXPECTED_NULL => ErrorType::ExpectedNull,
+        status::INVALID_NUMBER => ErrorType::InvalidNumber,
+        status::INVALID_ESCAPE => ErrorType::InvalidEscape,
+        status::INVALID_UNICODE_CODEPOINT => ErrorType::InvalidUnicodeCodepoint,
         _ => return None,
     };
     Some(kind)
@@ -62,10 +63,10 @@ fn error_with(status: i32, place: ErrorPlace) -> Option<Error>
     Some(Error::new(place.index, None, kind))
 }
 
-fn position_of(location: &Location) -> Position
+pub(crate) fn position_of(location: &Location) -> InputPosition
     ensures { result ≡ position_of location.now }
 {
-    Position {
+    InputPosition {
         byte: location.byte(),
         line: location.line(),
         column: location.column(),
@@ -87,7 +88,7 @@ pub extern "C" fn simd_json_location(
     input: &[u8],
     status: i32,
     place: &ErrorPlace,
-    position: &mut Position,
+    position: &mut InputPosition,
     out: &mut [u8],
     needed: &mut usize,
 ) -> i32
@@ -95,13 +96,13 @@ pub extern "C" fn simd_json_location(
         needed.old needed.new out.old out.new }
 {
     let Some(error) = error_with(status, *place) else {
-        *position = Position {
+        *position = InputPosition {
             byte: 0,
             line: 0,
             column: 0,
         };
         *needed = 0;
-        return 0;
+        return OK;
     };
     let location = Location::new(input, error);
     *position = position_of(&location);

@@ -14,9 +14,9 @@ ghost use Rattle.simd_json_parts.specs.Pointed.{pointed};
 ghost use Rattle.simd_json_parts.specs.Views.{get};
 ghost use Rattle.simd_json_c.specs.Placed.{AreAt, IsFound, IsValueAt, before_element};
 ghost use Rattle.simd_json_c.specs.Placed.{before_get, before_member, before_named};
-ghost use Rattle.simd_json_c.specs.Placed.{before_pointed, index_of, key_of};
+ghost use Rattle.simd_json_c.specs.Placed.{before_pointed, found_index, token_key};
 
-use crate::nodes::Node;
+use crate::cells::Cell;
 use simd_json_parts::pointer::{is_index, is_key, next_token, read_index};
 
 // The kinds of the two headers.
@@ -29,11 +29,11 @@ const NO_NODE: usize = usize::MAX;
 
 /// Returns the index of the value of the first pair with a key in the object at index `object`.
 #[unsafe(no_mangle)]
-pub extern "C" fn simd_json_key(nodes: &[Node], text: &[u8], object: usize, key: &[u8]) -> usize
+pub extern "C" fn simd_json_get(nodes: &[Cell], text: &[u8], object: usize, key: &[u8]) -> usize
     ensures named { (d : Document) → IsValueAt nodes.now text.now object d
-        → IsFound nodes.now text.now (index_of result) (object + before_get key.now d)
+        → IsFound nodes.now text.now (found_index result) (object + before_get key.now d)
         (get key.now d) }
-    ensures within { IfSome (index_of result) (λ i. i < length nodes.now) }
+    ensures within { IfSome (found_index result) (λ i. i < length nodes.now) }
 {
     index_or_none(nodes, keyed(nodes, text, object, key))
 }
@@ -41,25 +41,25 @@ pub extern "C" fn simd_json_key(nodes: &[Node], text: &[u8], object: usize, key:
 /// Returns the index of the node that a pointer names beneath the node at index `from`.
 #[unsafe(no_mangle)]
 pub extern "C" fn simd_json_pointer(
-    nodes: &[Node],
+    nodes: &[Cell],
     text: &[u8],
     from: usize,
     pointer: &[u8],
 ) -> usize
     ensures named { (d : Document) → IsValueAt nodes.now text.now from d
-        → IsFound nodes.now text.now (index_of result) (from + before_pointed pointer.now d)
+        → IsFound nodes.now text.now (found_index result) (from + before_pointed pointer.now d)
         (result_ok (pointed pointer.now d)) }
-    ensures within { IfSome (index_of result) (λ i. i < length nodes.now) }
+    ensures within { IfSome (found_index result) (λ i. i < length nodes.now) }
 {
     index_or_none(nodes, walk(nodes, text, from, pointer))
 }
 
 // The index of a node, or `NO_NODE`.
-fn index_or_none(nodes: &[Node], found: Option<usize>) -> usize
+fn index_or_none(nodes: &[Cell], found: Option<usize>) -> usize
     ensures named { (text : List ℕ) (place : ℕ) (value : Option Document)
         → IsFound nodes.now text found place value
-        → IsFound nodes.now text (index_of result) place value }
-    ensures within { IfSome (index_of result) (λ i. i < length nodes.now) }
+        → IsFound nodes.now text (found_index result) place value }
+    ensures within { IfSome (found_index result) (λ i. i < length nodes.now) }
 {
     match found {
         Some(found) if found < nodes.len() => found,
@@ -68,7 +68,7 @@ fn index_or_none(nodes: &[Node], found: Option<usize>) -> usize
 }
 
 // The index that a pointer leads to.
-fn walk(nodes: &[Node], text: &[u8], from: usize, pointer: &[u8]) -> Option<usize>
+fn walk(nodes: &[Cell], text: &[u8], from: usize, pointer: &[u8]) -> Option<usize>
     ensures { (d : Document) → IsValueAt nodes.now text.now from d
         → IsFound nodes.now text.now result (from + before_pointed pointer.now d)
         (result_ok (pointed pointer.now d)) }
@@ -87,7 +87,7 @@ fn walk(nodes: &[Node], text: &[u8], from: usize, pointer: &[u8]) -> Option<usiz
 }
 
 // The index of the value of the first pair with a key in the value at index `at`.
-fn keyed(nodes: &[Node], text: &[u8], at: usize, key: &[u8]) -> Option<usize>
+fn keyed(nodes: &[Cell], text: &[u8], at: usize, key: &[u8]) -> Option<usize>
     ensures { (d : Document) → IsValueAt nodes.now text.now at d
         → IsFound nodes.now text.now result (at + before_get key.now d) (get key.now d) }
 {
@@ -102,7 +102,7 @@ fn keyed(nodes: &[Node], text: &[u8], at: usize, key: &[u8]) -> Option<usize>
 }
 
 // The index of the value that a token names in the value at index `at`.
-fn child(nodes: &[Node], text: &[u8], at: usize, token: &[u8], is_plain: bool) -> Option<usize>
+fn child(nodes: &[Cell], text: &[u8], at: usize, token: &[u8], is_plain: bool) -> Option<usize>
     requires { is_plain ≡ true → IsPlain token.now }
     ensures { (d : Document) → IsValueAt nodes.now text.now at d
         → IsFound nodes.now text.now result (at + before_named token.now d)
@@ -122,7 +122,7 @@ fn child(nodes: &[Node], text: &[u8], at: usize, token: &[u8], is_plain: bool) -
 }
 
 // The index of the element that a token names among the `len` from index `first` on.
-fn element(nodes: &[Node], first: usize, len: usize, token: &[u8]) -> Option<usize>
+fn element(nodes: &[Cell], first: usize, len: usize, token: &[u8]) -> Option<usize>
     ensures { (text : List ℕ) (ds : Elements) → AreAt nodes.now text first (elements_listing ds)
         → len ≡ length (elements ds) → IsFound nodes.now text result
         (first + before_element ds (unwrap_or (array_index token.now) 0))
@@ -149,7 +149,7 @@ fn number_of(token: &[u8]) -> Option<usize>
 }
 
 // The index of an element, of which there are enough.
-fn nth(nodes: &[Node], first: usize, index: usize) -> Option<usize>
+fn nth(nodes: &[Cell], first: usize, index: usize) -> Option<usize>
     ensures { (text : List ℕ) (ds : Elements) → AreAt nodes.now text first (elements_listing ds)
         → index < length (elements ds)
         → IsFound nodes.now text result (first + before_element ds index)
@@ -165,7 +165,7 @@ fn nth(nodes: &[Node], first: usize, index: usize) -> Option<usize>
 // The index of the value of the first of `len` pairs, from index `first` on, with the key that a
 // token is: as it stands, or with its escapes decoded.
 fn member(
-    nodes: &[Node],
+    nodes: &[Cell],
     text: &[u8],
     first: usize,
     len: usize,
@@ -174,8 +174,8 @@ fn member(
 ) -> Option<usize>
     ensures { (ms : Members) → AreAt nodes.now text.now first (members_listing ms)
         → len ≡ length (members ms) → IsFound nodes.now text.now result
-        (first + before_member ms (unwrap_or (key_of is_plain token.now) []))
-        (result_ok (member_at ms (key_of is_plain token.now))) }
+        (first + before_member ms (unwrap_or (token_key is_plain token.now) []))
+        (result_ok (member_at ms (token_key is_plain token.now))) }
 {
     let mut at = first;
     for passed in 0..len {
@@ -194,7 +194,7 @@ fn member(
 // Whether a key is the one that a token is.
 #[inline(always)]
 fn is_named(token: &[u8], is_plain: bool, key: &[u8]) -> bool
-    ensures { IsTrue result ↔ (key_of is_plain token.now ≡ Some key.now) }
+    ensures { IsTrue result ↔ (token_key is_plain token.now ≡ Some key.now) }
 {
     if is_plain {
         token == key
@@ -204,7 +204,7 @@ fn is_named(token: &[u8], is_plain: bool, key: &[u8]) -> bool
 }
 
 // The index after the value at index `at`.
-fn after(nodes: &[Node], at: usize) -> Option<usize>
+pub(crate) fn after(nodes: &[Cell], at: usize) -> Option<usize>
     ensures { (text : List ℕ) (d : Document) → IsValueAt nodes.now text at d
         → result ≡ Some (at + length (listing d)) }
 {
@@ -219,7 +219,7 @@ fn after(nodes: &[Node], at: usize) -> Option<usize>
 }
 
 // How many nodes lie beneath a node.
-fn beneath(node: Node) -> u64
+fn beneath(node: Cell) -> u64
     ensures header { 8 ≤ node.kind → result ≡ node.value }
     ensures other { node.kind < 8 → result ≡ 0 }
 {
@@ -227,7 +227,7 @@ fn beneath(node: Node) -> u64
 }
 
 // The `len` bytes of text from index `start` on, or none if it has not so many.
-fn text_at(text: &[u8], start: u64, len: usize) -> &[u8]
+pub(crate) fn text_at(text: &[u8], start: u64, len: usize) -> &[u8]
     ensures { len ≤ length text.now - start → result.now ≡ take len (drop start text.now) }
 {
     if start > text.len() as u64 || len > text.len() - start as usize {

@@ -1,7 +1,7 @@
 //! The printed text of a document. If the room is too small, only the needed size is written, so a
 //! text is made first and then copied.
 ghost use Rattle.std.specs.Prelude.{◌≡◌, ◌<◌, ◌≤◌, ◌⊎◌, ◌+◌, ◌++◌, ◌==◌, IfOk, IfErr};
-ghost use Rattle.std.specs.Prelude.{OnOk, OnErr, Some, length, map, max, not, string_bytes};
+ghost use Rattle.std.specs.Prelude.{ℕ, List, OnOk, OnErr, Some, length, map, max, not, string_bytes};
 ghost use Rattle.std.specs.Result.{result_err};
 ghost use Rattle.std.specs.Vec.{vec_capacity};
 ghost use Rattle.simd_json.specs.Viewed.{doc};
@@ -10,9 +10,12 @@ ghost use Rattle.simd_json_parts.specs.Limits.{depth};
 ghost use Rattle.simd_json_parts.specs.Listing.{listing};
 ghost use Rattle.simd_json_parts.specs.Nodes.{item_of};
 ghost use Rattle.simd_json_c.specs.Calls.{IsTextPut};
-ghost use Rattle.simd_json_c.specs.Chosen.{IsChosenPut, IsPrintedWith, printed};
-ghost use Rattle.simd_json_c.specs.Statuses.{error_place, error_status};
+ghost use Rattle.simd_json_c.specs.Chosen.{IsChosenPut, IsPrintedWith, printed_text};
+ghost use Rattle.simd_json_c.specs.Printable.{IsNodePrinted};
+ghost use Rattle.simd_json_c.specs.Statuses.{error_place, error_status, out_of_memory};
 
+use crate::cells::Cell;
+use crate::printable::nodes_from;
 use crate::parser::Parser;
 use crate::status::{
     ErrorPlace, NO_VALUE, OUT_OF_MEMORY, PARSER_CLOSED, TOO_LITTLE_ROOM, reported,
@@ -90,10 +93,10 @@ fn append(
     is_pretty: bool,
 ) -> std::result::Result<(), AllocError>
     ensures appended { (d : Document) → map item_of nodes.now ≡ listing d
-        → OnOk result (text.new.items ≡ text.old.items ++ printed is_pretty d) }
+        → OnOk result (text.new.items ≡ text.old.items ++ printed_text is_pretty d) }
     ensures lacking { (d : Document) → map item_of nodes.now ≡ listing d
         → OnErr result ((vec_capacity text.old
-        < length text.old.items + length (printed is_pretty d))
+        < length text.old.items + length (printed_text is_pretty d))
         ⊎ (max 64 (length levels.old.items) < depth d)) }
     ensures capacity { vec_capacity text.old ≤ vec_capacity text.new }
     ensures levels { length levels.old.items ≤ length levels.new.items }
@@ -102,6 +105,53 @@ fn append(
         append_pretty_within(text, nodes, levels)
     } else {
         append_compact_within(text, nodes, levels)
+    }
+}
+
+/// Writes the text of the value at index `from` of the nodes of a document to the caller's memory:
+/// compact if the layout is 0, else pretty.
+#[unsafe(no_mangle)]
+pub extern "C" fn simd_json_print(
+    alloc: Global,
+    nodes: &[Cell],
+    text: &[u8],
+    from: usize,
+    layout: u32,
+    out: &mut [u8],
+    needed: &mut usize,
+) -> i32
+    ensures { IsNodePrinted nodes.now text.now from (not (layout == 0)) result needed.old needed.new
+        out.old out.new }
+{
+    if from >= nodes.len() {
+        return NO_VALUE;
+    }
+    match nodes_from(alloc, nodes, text, from) {
+        Ok(nodes) => print_nodes(alloc, &nodes, layout != 0, out, needed),
+        Err(_) => OUT_OF_MEMORY,
+    }
+}
+
+// Copies the text of the value that the nodes list if there is room for it, and returns the status.
+fn print_nodes(
+    alloc: Global,
+    nodes: &[Node<'_>],
+    is_pretty: bool,
+    out: &mut [u8],
+    needed: &mut usize,
+) -> i32
+    ensures { ((result ≡ out_of_memory) × (needed.new ≡ needed.old) × (out.new ≡ out.old))
+        ⊎ ((printed : List ℕ) × IsTextPut printed result needed.new out.old out.new
+        × ((d : Document) → map item_of nodes.now ≡ listing d
+        → printed ≡ printed_text is_pretty d)) }
+{
+    let Ok(mut text) = Vec::with_capacity(alloc, out.len()) else {
+        return OUT_OF_MEMORY;
+    };
+    let mut levels = Vec::new(alloc);
+    match append(&mut text, &mut levels, nodes, is_pretty) {
+        Ok(()) => put_text(&text, out, needed),
+        Err(_) => OUT_OF_MEMORY,
     }
 }
 

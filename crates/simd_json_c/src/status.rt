@@ -26,19 +26,49 @@ impl ErrorPlace {
     };
 }
 
-// An allocation failed.
+// The statuses, with the header's names and numbers (tests/c.sh compares them).
+pub(crate) const OK: i32 = 0;
+
 pub(crate) const OUT_OF_MEMORY: i32 = 1;
 
-// Bytes are no number.
+pub(crate) const INPUT_TOO_LARGE: i32 = 2;
+
+pub(crate) const INVALID_UTF8: i32 = 3;
+
+pub(crate) const SYNTAX: i32 = 4;
+
+pub(crate) const EOF: i32 = 5;
+
+pub(crate) const INTERNAL_ERROR: i32 = 6;
+
+pub(crate) const EXPECTED_ARRAY_CONTENT: i32 = 7;
+
+pub(crate) const EXPECTED_OBJECT_CONTENT: i32 = 8;
+
+pub(crate) const EXPECTED_OBJECT_KEY: i32 = 9;
+
+pub(crate) const EXPECTED_OBJECT_COLON: i32 = 10;
+
+pub(crate) const TRAILING_DATA: i32 = 11;
+
+pub(crate) const DEPTH_LIMIT_EXCEEDED: i32 = 12;
+
+pub(crate) const EXPECTED_TRUE: i32 = 13;
+
+pub(crate) const EXPECTED_FALSE: i32 = 14;
+
+pub(crate) const EXPECTED_NULL: i32 = 15;
+
 pub(crate) const INVALID_NUMBER: i32 = 16;
 
-/// The caller's memory is too small.
+pub(crate) const INVALID_ESCAPE: i32 = 17;
+
+pub(crate) const INVALID_UNICODE_CODEPOINT: i32 = 18;
+
 pub(crate) const TOO_LITTLE_ROOM: i32 = 19;
 
-// The parser is closed.
 pub(crate) const PARSER_CLOSED: i32 = 20;
 
-// A pointer names no value.
 pub(crate) const NO_VALUE: i32 = 21;
 
 // Each kind of error that a parse returns has its own number.
@@ -46,24 +76,24 @@ fn number(kind: &ErrorType) -> i32
     ensures { result ≡ pos (kind_status kind.now) }
 {
     match kind {
-        ErrorType::OutOfMemory => 1,
-        ErrorType::InputTooLarge => 2,
-        ErrorType::InvalidUtf8 => 3,
-        ErrorType::Syntax => 4,
-        ErrorType::Eof => 5,
-        ErrorType::InternalError => 6,
-        ErrorType::ExpectedArrayContent => 7,
-        ErrorType::ExpectedObjectContent => 8,
-        ErrorType::ExpectedObjectKey => 9,
-        ErrorType::ExpectedObjectColon => 10,
-        ErrorType::TrailingData => 11,
-        ErrorType::DepthLimitExceeded => 12,
-        ErrorType::ExpectedTrue => 13,
-        ErrorType::ExpectedFalse => 14,
-        ErrorType::ExpectedNull => 15,
-        ErrorType::InvalidNumber => 16,
-        ErrorType::InvalidEscape => 17,
-        ErrorType::InvalidUnicodeCodepoint => 18,
+        ErrorType::OutOfMemory => OUT_OF_MEMORY,
+        ErrorType::InputTooLarge => INPUT_TOO_LARGE,
+        ErrorType::InvalidUtf8 => INVALID_UTF8,
+        ErrorType::Syntax => SYNTAX,
+        ErrorType::Eof => EOF,
+        ErrorType::InternalError => INTERNAL_ERROR,
+        ErrorType::ExpectedArrayContent => EXPECTED_ARRAY_CONTENT,
+        ErrorType::ExpectedObjectContent => EXPECTED_OBJECT_CONTENT,
+        ErrorType::ExpectedObjectKey => EXPECTED_OBJECT_KEY,
+        ErrorType::ExpectedObjectColon => EXPECTED_OBJECT_COLON,
+        ErrorType::TrailingData => TRAILING_DATA,
+        ErrorType::DepthLimitExceeded => DEPTH_LIMIT_EXCEEDED,
+        ErrorType::ExpectedTrue => EXPECTED_TRUE,
+        ErrorType::ExpectedFalse => EXPECTED_FALSE,
+        ErrorType::ExpectedNull => EXPECTED_NULL,
+        ErrorType::InvalidNumber => INVALID_NUMBER,
+        ErrorType::InvalidEscape => INVALID_ESCAPE,
+        ErrorType::InvalidUnicodeCodepoint => INVALID_UNICODE_CODEPOINT,
         _ => 99,
     }
 }
@@ -99,28 +129,28 @@ fn name_of_status(status: i32) -> &'static [u8]
     ensures { result.now ≡ status_name status }
 {
     match status {
-        0 => b"Ok",
-        1 => b"OutOfMemory",
-        2 => b"InputTooLarge",
-        3 => b"InvalidUtf8",
-        4 => b"Syntax",
-        5 => b"Eof",
-        6 => b"InternalError",
-        7 => b"ExpectedArrayContent",
-        8 => b"ExpectedObjectContent",
-        9 => b"ExpectedObjectKey",
-        10 => b"ExpectedObjectColon",
-        11 => b"TrailingData",
-        12 => b"DepthLimitExceeded",
-        13 => b"ExpectedTrue",
-        14 => b"ExpectedFalse",
-        15 => b"ExpectedNull",
-        16 => b"InvalidNumber",
-        17 => b"InvalidEscape",
-        18 => b"InvalidUnicodeCodepoint",
-        19 => b"TooLittleRoom",
-        20 => b"ParserClosed",
-        21 => b"NoValue",
+        OK => b"Ok",
+        OUT_OF_MEMORY => b"OutOfMemory",
+        INPUT_TOO_LARGE => b"InputTooLarge",
+        INVALID_UTF8 => b"InvalidUtf8",
+        SYNTAX => b"Syntax",
+        EOF => b"Eof",
+        INTERNAL_ERROR => b"InternalError",
+        EXPECTED_ARRAY_CONTENT => b"ExpectedArrayContent",
+        EXPECTED_OBJECT_CONTENT => b"ExpectedObjectContent",
+        EXPECTED_OBJECT_KEY => b"ExpectedObjectKey",
+        EXPECTED_OBJECT_COLON => b"ExpectedObjectColon",
+        TRAILING_DATA => b"TrailingData",
+        DEPTH_LIMIT_EXCEEDED => b"DepthLimitExceeded",
+        EXPECTED_TRUE => b"ExpectedTrue",
+        EXPECTED_FALSE => b"ExpectedFalse",
+        EXPECTED_NULL => b"ExpectedNull",
+        INVALID_NUMBER => b"InvalidNumber",
+        INVALID_ESCAPE => b"InvalidEscape",
+        INVALID_UNICODE_CODEPOINT => b"InvalidUnicodeCodepoint",
+        TOO_LITTLE_ROOM => b"TooLittleRoom",
+        PARSER_CLOSED => b"ParserClosed",
+        NO_VALUE => b"NoValue",
         _ => b"",
     }
 }

@@ -1,17 +1,17 @@
 use Rattle.std.proofs.Common.{◌≡◌, ◌∙◌, ap, sym, subst, refl, arith, Some, ◌+◌, length, true≢false}
 use Rattle.simd_json_parts.specs.Listing.{listing}
-use Rattle.simd_json_c.specs.Placed.{key_of}
+use Rattle.simd_json_c.specs.Placed.{token_key}
 use Rattle.simd_json_c.proofs.Placing.{MembersLeft, members-all, members-none, next-member, some_node}
 use Rattle.simd_json_c.proofs.pointer.member.Goals as goal
 
 pub loop-passed-init : goal.loop-passed-init
 loop-passed-init c ms a is =
-    let u = key_of c.args.is_plain c.args.token.now in
+    let u = token_key c.args.is_plain c.args.token.now in
     members-all c.args.nodes.now c.args.text.now u ms c.args.len c.args.first a is
 
 pub returns-then-at-nodes : goal.returns-then-at-nodes
 returns-then-at-nodes c ms a is =
-    let u = key_of c.args.is_plain c.args.token.now in
+    let u = token_key c.args.is_plain c.args.token.now in
     let l = c.loop-passed in
     let next =
     next-member c.args.nodes.now c.args.text.now u ms c.args.len c.args.first l.passed l.at some_node
@@ -20,7 +20,7 @@ returns-then-at-nodes c ms a is =
 
 pub returns-then-is_named : goal.returns-then-is_named
 returns-then-is_named c ms a is =
-    let u = key_of c.args.is_plain c.args.token.now in
+    let u = token_key c.args.is_plain c.args.token.now in
     let l = c.loop-passed in
     let next =
     next-member c.args.nodes.now c.args.text.now u ms c.args.len c.args.first l.passed l.at _
@@ -33,7 +33,7 @@ pub loop-passed-preserved : goal.loop-passed-preserved
 loop-passed-preserved c ms a is =
     let nodes = c.args.nodes.now in
     let text = c.args.text.now in
-    let u = key_of c.args.is_plain c.args.token.now in
+    let u = token_key c.args.is_plain c.args.token.now in
     let l = c.loop-passed in
     let next = next-member nodes text u ms c.args.len c.args.first l.passed l.at _ (l.invariant ms a is) (omega arith) in
     let key = c.text_at.ensures next.1.within ∙ next.1.key_is in
@@ -45,7 +45,7 @@ loop-passed-preserved c ms a is =
 
 pub returns-in_err-at : goal.returns-in_err-at
 returns-in_err-at c ms a is =
-    let u = key_of c.args.is_plain c.args.token.now in
+    let u = token_key c.args.is_plain c.args.token.now in
     let l = c.loop-passed in
     let next =
     next-member c.args.nodes.now c.args.text.now u ms c.args.len c.args.first l.passed l.at some_node
@@ -54,7 +54,7 @@ returns-in_err-at c ms a is =
 
 pub returns : goal.returns
 returns c ms a is =
-    let u = key_of c.args.is_plain c.args.token.now in
+    let u = token_key c.args.is_plain c.args.token.now in
     let l = c.loop-passed in
     members-none c.args.nodes.now c.args.text.now u ms c.args.len c.args.first l.passed l.at
     (l.invariant ms a is) (omega arith)

@@ -9,7 +9,7 @@ use std::alloc::Global;
 
 /// An input in which values are found, or none.
 #[derive(Drop)]
-pub struct Source {
+pub struct ScannedInput {
     // a copy of it
     pub(crate) bytes: Vec<u8>,
     // its structural indexes
@@ -20,7 +20,7 @@ pub struct Source {
         × (index.listed ≡ positions bytes.items) },
 }
 
-impl Source {
+impl ScannedInput {
     ghost use Rattle.std.specs.Prelude.{◌≡◌, ℕ, pos, false, true, None, Ok, IfOk, IfErr, IsUtf8};
     ghost use Rattle.std.specs.Prelude.{option_map, Some};
     ghost use Rattle.std.specs.Result.{result_ok};
@@ -35,10 +35,10 @@ impl Source {
     ghost use Rattle.simd_json_c.specs.Kept.{KeepsSource, source_capacity};
 
     // None, which holds no memory.
-    pub(crate) fn new(alloc: Global) -> Source
+    pub(crate) fn new(alloc: Global) -> ScannedInput
         ensures { result.is_scanned ≡ false }
     {
-        Source {
+        ScannedInput {
             bytes: Vec::new(alloc),
             index: Index::empty(alloc),
             is_scanned: false,

@@ -2,7 +2,7 @@ use Rattle.std.proofs.Common.{sym, refl, rules, w32}
 use Rattle.std.proofs.lemmas.Int.{to_z-of_z}
 use mir.Val.{SFits}
 use Rattle.simd_json_c.proofs.Naming.{is-none, is-some, named-none, named-some}
-use Rattle.simd_json_c.proofs.find.find.Goals as goal
+use Rattle.simd_json_c.proofs.demand.put_named.Goals as goal
 
 pub returns-in-Some : goal.returns-in-Some
 returns-in-Some c =

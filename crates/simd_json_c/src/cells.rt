@@ -1,14 +1,14 @@
 //! Nodes as a program in C gets them.
 ghost use Rattle.std.specs.Prelude.{◌≡◌, ℕ, true};
 ghost use Rattle.simd_json_stages.specs.Placed.{is_long};
-ghost use Rattle.simd_json_c.specs.Nodes.{cut, cut_of, span, static_node};
+ghost use Rattle.simd_json_c.specs.Cells.{cut, cut_of, cell_with, static_cell};
 
 use simd_json::{Container, SpanNode, StaticNode};
 
 /// A node of a tape.
 #[repr(C)]
 #[derive(Clone, Copy, Drop)]
-pub struct Node {
+pub struct Cell {
     /// What it is, by the header's numbers.
     pub kind: u32,
     /// The length of its text in bytes, or its number of members.
@@ -17,34 +17,34 @@ pub struct Node {
     pub value: u64,
 }
 
-impl SpanNode for Node {
+impl SpanNode for Cell {
     ghost form = { cut_of };
 
     #[inline(always)]
-    fn string(at: usize, len: usize) -> Node {
-        span_of(7, len, at)
+    fn string(at: usize, len: usize) -> Cell {
+        cell_of(7, len, at)
     }
 
     #[inline(always)]
-    fn decimal(at: usize, len: usize) -> Node {
-        span_of(6, len, at)
+    fn decimal(at: usize, len: usize) -> Cell {
+        cell_of(6, len, at)
     }
 
     #[inline(always)]
-    fn wide_integer(at: usize, len: usize, value: StaticNode) -> Node {
-        span_of(long_kind(value), len, at)
+    fn wide_integer(at: usize, len: usize, value: StaticNode) -> Cell {
+        cell_of(long_kind(value), len, at)
     }
 
     // Its kind is known where this is inlined, so the other cases disappear.
     #[inline(always)]
-    fn short_scalar(value: StaticNode) -> Node {
+    fn short_scalar(value: StaticNode) -> Cell {
         let (kind, value) = match value {
             StaticNode::Bool(value) => (1, value as u64),
             StaticNode::I64(value) => (2, value.cast_unsigned()),
             StaticNode::U64(value) => (3, value),
             _ => (0, 0),
         };
-        Node {
+        Cell {
             kind,
             len: 0,
             value,
@@ -52,10 +52,10 @@ impl SpanNode for Node {
     }
 
     #[inline(always)]
-    fn header(container: Container, len: usize, count: usize) -> Node {
+    fn header(container: Container, len: usize, count: usize) -> Cell {
         match container {
-            Container::Array => span_of(8, len, count),
-            Container::Object => span_of(9, len, count),
+            Container::Array => cell_of(8, len, count),
+            Container::Object => cell_of(9, len, count),
         }
     }
 }
@@ -63,10 +63,10 @@ impl SpanNode for Node {
 // A node with so many bytes or members. Only 32 bits of the length are kept: no document needs
 // more, since an input has fewer than 2^32 bytes.
 #[inline(always)]
-fn span_of(kind: u32, len: usize, value: usize) -> Node
-    ensures { result ≡ cut (span kind len value) }
+fn cell_of(kind: u32, len: usize, value: usize) -> Cell
+    ensures { result ≡ cut (cell_with kind len value) }
 {
-    Node {
+    Cell {
         kind,
         len: (len % (1 << 32)) as u32,
         value: value as u64,
@@ -76,7 +76,7 @@ fn span_of(kind: u32, len: usize, value: usize) -> Node
 // The kind of an integer of 128 bits.
 fn long_kind(value: StaticNode) -> u32
     requires { is_long value ≡ true }
-    ensures { (at len : ℕ) → static_node at len value ≡ span result len at }
+    ensures { (at len : ℕ) → static_cell at len value ≡ cell_with result len at }
 {
     match value {
         StaticNode::I128(_) => 4,

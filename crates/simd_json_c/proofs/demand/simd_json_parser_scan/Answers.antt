@@ -9,7 +9,7 @@ use Rattle.simd_json_c.specs.Kept.{KeepsRoom, KeepsSource, source_capacity}
 use Rattle.simd_json_c.specs.declared.status.ErrorPlace.{ErrorPlace}
 use Rattle.simd_json_c.specs.declared.lists.Lists.{Lists}
 use Rattle.simd_json_c.proofs.Calling.{IsReported}
-use Rattle.simd_json_c.proofs.find.simd_json_parser_index.Goals as goal
+use Rattle.simd_json_c.proofs.demand.simd_json_parser_scan.Goals as goal
 
 input-with : (old new : Option Lists) (was lists : Lists) (b : List ℕ) (r : Result ℤ Error) (status : ℤ) (place : ErrorPlace)
     → old ≡ Some was → new ≡ Some lists → KeepsRoom was lists → KeepsSource was.source lists.source → IsReported r status place

@@ -3,7 +3,7 @@ use Rattle.simd_json_parts.specs.Faults.{whole_fault}
 use Rattle.simd_json_parts.specs.declared.error.ErrorType.TheVariants.{OutOfMemory}
 use Rattle.simd_json_stages.proofs.Exits.{passed-on}
 use Rattle.simd_json_stages.proofs.Whole.{right-input}
-use Rattle.simd_json_c.proofs.source.Source.keep.Goals as goal
+use Rattle.simd_json_c.proofs.scanned.ScannedInput.keep.Goals as goal
 
 pub returns-in_err-extend_from_slice-clause-fault : goal.returns-in_err-extend_from_slice-clause-fault
 returns-in_err-extend_from_slice-clause-fault c =

@@ -10,7 +10,7 @@ ghost use Rattle.simd_json_c.specs.Found.{IsValuePut, kind_number};
 
 use crate::parser::Parser;
 use crate::print::put_text;
-use crate::source::Source;
+use crate::scanned::ScannedInput;
 use crate::status::{ErrorPlace, NO_VALUE, PARSER_CLOSED, reported};
 use simd_json_ondemand::views::kinds_are_those_of_documents;
 use simd_json_ondemand::{Value, ValueType};
@@ -20,7 +20,7 @@ use std::mem::replace;
 /// A value that is found.
 #[repr(C)]
 #[derive(Clone, Copy, Drop)]
-pub struct Found {
+pub struct FoundValue {
     /// What it is, by the header's numbers.
     pub kind: u32,
     /// How many bytes it has as it is written.
@@ -29,7 +29,7 @@ pub struct Found {
 
 /// Keeps a copy of an input, and its structural indexes, until the next call of this function.
 #[unsafe(no_mangle)]
-pub extern "C" fn simd_json_parser_index(
+pub extern "C" fn simd_json_parser_scan(
     alloc: Global,
     parser: &mut Parser,
     input: &[u8],
@@ -50,11 +50,11 @@ pub extern "C" fn simd_json_parser_index(
 /// Writes the value that a pointer names in the input that is kept, as it is written there, to the
 /// caller's memory.
 #[unsafe(no_mangle)]
-pub extern "C" fn simd_json_parser_find(
+pub extern "C" fn simd_json_parser_pointer(
     alloc: Global,
     parser: &mut Parser,
     pointer: &[u8],
-    found: &mut Found,
+    found: &mut FoundValue,
     out: &mut [u8],
 ) -> i32
     ensures { IsFoundWith parser.old.held.value parser.new.held.value pointer.now result
@@ -62,7 +62,7 @@ pub extern "C" fn simd_json_parser_find(
 {
     match replace(parser, Parser::closed(alloc)).into_lists() {
         Some(lists) => {
-            let status = find(&lists.source, pointer, found, out);
+            let status = put_named(&lists.source, pointer, found, out);
             *parser = Parser::open(lists);
             status
         }
@@ -71,7 +71,7 @@ pub extern "C" fn simd_json_parser_find(
 }
 
 // Writes the value that a pointer names in an input, and returns the status.
-fn find(source: &Source, pointer: &[u8], found: &mut Found, out: &mut [u8]) -> i32
+fn put_named(source: &ScannedInput, pointer: &[u8], found: &mut FoundValue, out: &mut [u8]) -> i32
     ensures { IsFoundIn source.now pointer.now result found.old found.new out.old out.new }
 {
     match source.named(pointer) {
@@ -82,7 +82,7 @@ fn find(source: &Source, pointer: &[u8], found: &mut Found, out: &mut [u8]) -> i
 
 // Writes the kind of a value, and its bytes as they are written if there is room for them, and
 // returns the status.
-fn put_value(value: Value<'_>, found: &mut Found, out: &mut [u8]) -> i32
+fn put_value(value: Value<'_>, found: &mut FoundValue, out: &mut [u8]) -> i32
     ensures any { IsValuePut value.entry result found.old found.new out.old out.new }
     ensures document { (e : Document) → doc value.entry ≡ Some e
         → (bytes : List ℕ) × (written value.entry ≡ Some bytes)

@@ -2,7 +2,7 @@ use Rattle.std.proofs.Common.{rules, w32}
 use Rattle.std.proofs.lemmas.Int.{to_z-of_z}
 use mir.Val.{SFits}
 use Rattle.simd_json_c.proofs.Naming.{is-some}
-use Rattle.simd_json_c.proofs.find.put_value.Goals as goal
+use Rattle.simd_json_c.proofs.demand.put_value.Goals as goal
 
 pub returns-in_default-2-clause-document : goal.returns-in_default-2-clause-document
 returns-in_default-2-clause-document c e is =

@@ -10,7 +10,7 @@ use simd_json_check::Index;
 use std::alloc::Global;
 
 // Finds the structural indexes, and copies them if there is room for them.
-fn index(alloc: Global, input: &[u8], indexes: &mut [u32], used: &mut usize) -> Result<i32>
+fn scan(alloc: Global, input: &[u8], indexes: &mut [u32], used: &mut usize) -> Result<i32>
     ensures put { IfOk result (λ status. (input_fault input.now ≡ None)
         × AreIndexesPut (positions input.now) status used.new indexes.old indexes.new) }
     ensures fault { IfErr result (λ e. IsUnscanned 0 input.now e
@@ -30,7 +30,7 @@ fn index(alloc: Global, input: &[u8], indexes: &mut [u32], used: &mut usize) -> 
 
 /// Writes the structural indexes of an input to the caller's memory.
 #[unsafe(no_mangle)]
-pub extern "C" fn simd_json_index(
+pub extern "C" fn simd_json_scan(
     alloc: Global,
     input: &[u8],
     indexes: &mut [u32],
@@ -39,5 +39,5 @@ pub extern "C" fn simd_json_index(
 ) -> i32
     ensures { IsIndexed input.now result place.new used.old used.new indexes.old indexes.new }
 {
-    reported(index(alloc, input, indexes, used), place)
+    reported(scan(alloc, input, indexes, used), place)
 }
