@@ -11,9 +11,9 @@ use Rattle.simd_json_parts.specs.Nodes.{Item, static_item, decimal_item, string_
 use Rattle.simd_json_parts.specs.declared.node.Node.{Node}
 use Rattle.simd_json_parts.specs.declared.node.Node.TheVariants as nodes
 use denote.Bor.{Bor}
-use Rattle.simd_json_serde.specs.Ahead.{ahead, node_ahead, array_count, text, unsigned, AreBytesAhead, CanEnter}
+use Rattle.simd_json_serde.specs.Ahead.{ahead, node_ahead, array_count, string_text, unsigned, AreBytesAhead, CanEnter}
 use Rattle.simd_json_serde.specs.Steps.{Place, AreBytesAt, BeginsBytes, Closes, IsUnsigned, Opens, ReadsAs, TakesNode}
-use Rattle.simd_json_serde.specs.declared.error.Fault.{Fault}
+use Rattle.simd_json_serde.specs.declared.error.StepFault.{StepFault}
 use Rattle.simd_json_serde.specs.declared.error.MismatchKind.{MismatchKind}
 use Rattle.simd_json_serde.specs.declared.error.MismatchKind.TheVariants.{OutOfMemory}
 
@@ -90,7 +90,7 @@ begins : (p : Place) (bs : List ℕ) → BeginsBytes p bs → ahead array_count 
 begins p bs b = ahead-of array_count p (array_item b.0 (length bs)) b.1 b.2
 
 -- where it can't be entered, memory is missing
-pub entered-or-full : (p : Place) (kind : MismatchKind) (Full : Type 0) → ((t : List ℕ) → ahead text p ≡ Some t → ⊥)
+pub entered-or-full : (p : Place) (kind : MismatchKind) (Full : Type 0) → ((t : List ℕ) → ahead string_text p ≡ Some t → ⊥)
     → (CanEnter array_count p → (kind ≡ OutOfMemory) × Full) → (bs : List ℕ) → AreBytesAhead p bs → kind ≡ OutOfMemory
 entered-or-full p kind Full none full bs (inl is) = absurd (none bs is)
 entered-or-full p kind Full none full bs (inr b) = (full (length bs, begins p bs b.0, b.1)).0
@@ -144,7 +144,7 @@ inside : (old mid : Place) (kind : MismatchKind) → Opens old array_item mid
     → ((bs : List ℕ) → mid.at + length bs ≡ mid.end → AreBytesAt mid.nodes mid.at bs → kind ≡ OutOfMemory) → (bs : List ℕ)
     → AreBytesAhead old bs → kind ≡ OutOfMemory
 inside old mid kind opens all bs (inl is) =
-    let none : None ≡ Some bs = sym (ahead-of text old (array_item opens.0 opens.1) opens.2 opens.3) ∙ is in
+    let none : None ≡ Some bs = sym (ahead-of string_text old (array_item opens.0 opens.1) opens.2 opens.3) ∙ is in
     cc
 inside old mid kind opens all bs (inr b) =
     let mid_nodes : old.nodes ≡ mid.nodes = sym (ap (λ p. p.nodes) opens.4) in
@@ -154,16 +154,16 @@ inside old mid kind opens all bs (inr b) =
     let count : opens.1 ≡ length bs = cc in
     all bs (omega arith) (subst (λ a. AreBytesAt mid.nodes a bs) mid_at (subst (λ ns. AreBytesAt ns (old.at + 1) bs) mid_nodes b.0.3))
 
-pub memory-inside : {A : Type 0} (r : Result A Fault) (old mid : Place) → Opens old array_item mid
+pub memory-inside : {A : Type 0} (r : Result A StepFault) (old mid : Place) → Opens old array_item mid
     → IfErr r (λ e. (bs : List ℕ) → mid.at + length bs ≡ mid.end → AreBytesAt mid.nodes mid.at bs → e.kind ≡ OutOfMemory)
     → IfErr r (λ e. (bs : List ℕ) → AreBytesAhead old bs → e.kind ≡ OutOfMemory)
 memory-inside (Ok x) old mid opens all = tt
 memory-inside (Err e) old mid opens all = inside old mid e.kind opens all
 
 pub no-text : (n : Node) (p : Place) → Some (item_of n) ≡ node_ahead p → ((s : Bor (List ℕ)) → n ≡ nodes.String s → ⊥)
-    → (t : List ℕ) → ahead text p ≡ Some t → ⊥
-no-text (nodes.Static s) p here not t is = (let e : None ≡ Some t = ap (option_and_then text) here ∙ is in cc)
-no-text (nodes.Decimal s) p here not t is = (let e : None ≡ Some t = ap (option_and_then text) here ∙ is in cc)
+    → (t : List ℕ) → ahead string_text p ≡ Some t → ⊥
+no-text (nodes.Static s) p here not t is = (let e : None ≡ Some t = ap (option_and_then string_text) here ∙ is in cc)
+no-text (nodes.Decimal s) p here not t is = (let e : None ≡ Some t = ap (option_and_then string_text) here ∙ is in cc)
 no-text (nodes.String s) p here not t is = not s refl
-no-text (nodes.Array len count) p here not t is = (let e : None ≡ Some t = ap (option_and_then text) here ∙ is in cc)
-no-text (nodes.Object len count) p here not t is = (let e : None ≡ Some t = ap (option_and_then text) here ∙ is in cc)
+no-text (nodes.Array len count) p here not t is = (let e : None ≡ Some t = ap (option_and_then string_text) here ∙ is in cc)
+no-text (nodes.Object len count) p here not t is = (let e : None ≡ Some t = ap (option_and_then string_text) here ∙ is in cc)

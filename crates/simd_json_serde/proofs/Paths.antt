@@ -13,8 +13,8 @@ use Rattle.simd_json_parts.specs.Document.{Elements, no_elements, element, Membe
 use Rattle.simd_json_parts.specs.Listing.{listing, elements_listing, members_listing}
 use Rattle.simd_json_parts.specs.Nodes.{Item, string_item, array_item, object_item}
 use Rattle.simd_json_parts.proofs.Documents.Fronts.{positive}
-use Rattle.simd_json_serde.specs.Ahead.{array_count, text}
-use Rattle.simd_json_serde.specs.Steps.{nodes_beneath}
+use Rattle.simd_json_serde.specs.Ahead.{array_count, string_text}
+use Rattle.simd_json_parts.specs.Headers.{count_of}
 use Rattle.simd_json_serde.proofs.Values.{stands_beneath}
 use Rattle.simd_json_serde.specs.Paths.{BeginAt, IsStep, way, elements_way, members_way, index_token, key_token}
 
@@ -69,7 +69,7 @@ some-at ns at d h none =
 
 -- the node there
 pub sized-at : (ns : List Item) (at : ℕ) (n : Item) (d : Document) → slice_get ns at ≡ Some n → BeginAt ns at (listing d)
-    → nodes_beneath n + 1 ≡ length (listing d)
+    → count_of n + 1 ≡ length (listing d)
 sized-at ns at n d got h = stands_beneath ns at d n h.0 got h.1
 
 -- ---- one element, one member further
@@ -225,8 +225,8 @@ members-end ns end node all key r past depth =
     r.same depth ∙ no-member r.members depth (node - key) (omega (arith, r.ends, past))
 
 pub string-there : (ns : List Item) (node : ℕ) (all : ℕ → List ℕ) (key : ℕ) (r : IsMember ns node all key)
-    → option_and_then text (slice_get ns key) ≡ Some r.name
-string-there ns node all key r = ap (option_and_then text) r.is
+    → option_and_then string_text (slice_get ns key) ≡ Some r.name
+string-there ns node all key r = ap (option_and_then string_text) r.is
 
 -- ---- one container further
 

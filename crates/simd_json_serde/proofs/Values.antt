@@ -5,12 +5,13 @@ use Rattle.std.proofs.lemmas.Grind.{common_steps}
 use Rattle.std.proofs.lemmas.Option.{slice_get_within, get_or_from_slice_get}
 use Rattle.simd_json_parts.specs.Document.{Document, null, boolean, integer, decimal, string, array, object}
 use Rattle.simd_json_parts.specs.Listing.{listing}
+use Rattle.simd_json_parts.specs.Headers.{count_of}
 use Rattle.simd_json_parts.specs.Nodes.{Item}
-use Rattle.simd_json_serde.specs.Steps.{Place, IsNodeTaken, Opens, nodes_beneath}
+use Rattle.simd_json_serde.specs.Steps.{Place, IsNodeTaken, Opens}
 
 -- a listing's first node says how many follow it
 beneath_first : (d : Document) (i : Item) (rest others : List Item) → listing d ++ rest ≡ i ∷ others →
-    nodes_beneath i + 1 ≡ length (listing d)
+    count_of i + 1 ≡ length (listing d)
 beneath_first null i rest others h = grind (arith, common_steps)
 beneath_first (boolean b) i rest others h = grind (arith, common_steps)
 beneath_first (integer minus n) i rest others h = grind (arith, common_steps)
@@ -21,7 +22,7 @@ beneath_first (object ms) i rest others h = grind (arith, common_steps)
 
 -- the node that is next begins the value that stands there
 pub stands_beneath : (ns : List Item) (at : ℕ) (d : Document) (n : Item) (rest : List Item) → slice_get ns at ≡ Some n →
-    drop at ns ≡ listing d ++ rest → nodes_beneath n + 1 ≡ length (listing d)
+    drop at ns ≡ listing d ++ rest → count_of n + 1 ≡ length (listing d)
 stands_beneath ns at d n rest got h =
     let within : at < length ns = slice_get_within ns at n got in
     let read : get_or ns at n ≡ n = get_or_from_slice_get ns at n n got in

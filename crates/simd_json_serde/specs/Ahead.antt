@@ -6,9 +6,7 @@ use Rattle.std.specs.Fmt.{signed_decimal}
 use Rattle.std.specs.Float.{Float, Format, float_is_finite}
 use lib.Ieee.{of_int}
 use Rattle.fast_float.specs.Parse.{parse_float}
-use Rattle.simd_json_parts.specs.Document as document
-use Rattle.simd_json_parts.specs.Document.{Document}
-use Rattle.simd_json_parts.specs.Integers.{integer_node}
+use Rattle.simd_json_parts.specs.Headers.{count_of}
 use Rattle.simd_json_parts.specs.Nodes.{Item, static_item, decimal_item, string_item, array_item, object_item}
 use Rattle.simd_json_parts.specs.StaticNodes.{truth_of, number_in}
 use Rattle.simd_json_parts.specs.Views.{if_passes, natural_of}
@@ -16,7 +14,7 @@ use Rattle.simd_json_parts.specs.declared.node.StaticNode.{StaticNode}
 use Rattle.simd_json_parts.specs.declared.node.StaticNode.TheVariants as fixed
 use Rattle.serde.specs.declared.format.Kind.{Kind}
 use Rattle.serde.specs.declared.format.Kind.TheVariants as kinds
-use Rattle.simd_json_serde.specs.Steps.{Place, BeginsBytes, nodes_beneath}
+use Rattle.simd_json_serde.specs.Steps.{Place, BeginsBytes}
 
 -- the next node within the innermost container
 abbrev pub node_ahead : Place → Option Item
@@ -34,13 +32,13 @@ abbrev pub integer_said : Item → Option ℤ
 integer_said (static_item s) = number_in s
 integer_said _ = None
 
-abbrev pub text : Item → Option (List ℕ)
-text (string_item t) = Some t
-text _ = None
+abbrev pub string_text : Item → Option (List ℕ)
+string_text (string_item t) = Some t
+string_text _ = None
 
-abbrev pub literal : Item → Option (List ℕ)
-literal (decimal_item t) = Some t
-literal _ = None
+abbrev pub decimal_text : Item → Option (List ℕ)
+decimal_text (decimal_item t) = Some t
+decimal_text _ = None
 
 -- the integer of a node that holds one without a sign and of 64 bits
 abbrev pub natural : Item → Option ℕ
@@ -76,12 +74,6 @@ float format (static_item s) = float_in format s
 float format (decimal_item t) = nearest format t
 float format _ = None
 
--- the float that a document is read as
-abbrev pub as_float : Format → Document → Option Float
-as_float format (document.integer minus n) = float_in format (integer_node minus n)
-as_float format (document.decimal t) = nearest format t
-as_float format _ = None
-
 -- ---- what comes, and what can be entered or skipped
 
 -- past 64 bits an integer is a float to a type that asks for the kind
@@ -116,11 +108,11 @@ CanEnter count_in p = (count : ℕ) × (ahead count_in p ≡ Some count) × (p.a
 
 -- the same of any value
 abbrev pub CanSkip : Place → Type 0
-CanSkip p = (count : ℕ) × (ahead (λ item. Some (nodes_beneath item)) p ≡ Some count) × (p.at + 1 + count < 2 ^ 64)
+CanSkip p = (count : ℕ) × (ahead (λ item. Some (count_of item)) p ≡ Some count) × (p.at + 1 + count < 2 ^ 64)
 
 -- bytes are next, as a string or as an array whose nodes can be numbered
 abbrev pub AreBytesAhead : Place → List ℕ → Type 0
-AreBytesAhead p bs = (ahead text p ≡ Some bs) ⊎ (BeginsBytes p bs × (p.at + 1 + length bs < 2 ^ 64))
+AreBytesAhead p bs = (ahead string_text p ≡ Some bs) ⊎ (BeginsBytes p bs × (p.at + 1 + length bs < 2 ^ 64))
 
 -- no container is open, and nothing is left
 abbrev pub NothingIsLeft : Place → Type 0

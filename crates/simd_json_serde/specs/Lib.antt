@@ -6,11 +6,7 @@ pub mod Paths
 pub mod Ahead
 pub mod Faults
 pub mod Outcomes
-pub mod Kept
-pub mod Written
-pub mod Noted
-pub mod Sent
-pub mod WriteFaults
+pub mod Scratch
 pub mod WrittenOut
 pub mod Words
 pub mod Messages

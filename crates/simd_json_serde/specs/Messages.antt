@@ -3,8 +3,8 @@ use Rattle.std.specs.Prelude.{ℕ, List, [], ◌∷◌, ◌++◌, Option, Some, 
 use Rattle.std.specs.Fmt.InlineText.{inline_text}
 use Rattle.simd_json_parts.specs.ErrorKinds.{error_text}
 use Rattle.simd_json_serde.specs.Words.{found_words, wanted_words}
-use Rattle.simd_json_serde.specs.declared.error.Error.{Error}
-use Rattle.simd_json_serde.specs.declared.error.Error.TheVariants as errors
+use Rattle.simd_json_serde.specs.declared.error.ReadError.{ReadError}
+use Rattle.simd_json_serde.specs.declared.error.ReadError.TheVariants as errors
 use Rattle.simd_json_serde.specs.declared.error.Mismatch.{Mismatch}
 use Rattle.simd_json_serde.specs.declared.error.MismatchKind.{MismatchKind}
 use Rattle.simd_json_serde.specs.declared.error.MismatchKind.TheVariants.{InvalidType, InvalidValue, InvalidLength, MissingValue}
@@ -39,15 +39,12 @@ lead_text (x ∷ path) = (x ∷ path) ++ codes ": "
 abbrev pub printed_mismatch : Mismatch → List ℕ
 printed_mismatch m = lead_text (path_of m) ++ mismatch_reason m.fault.kind (given_name m)
 
-abbrev pub printed_error : Error → List ℕ
-printed_error (errors.Parse e) = error_text e
-printed_error (errors.Mismatch m) = printed_mismatch m
+abbrev pub printed_read_error : ReadError → List ℕ
+printed_read_error (errors.Parse e) = error_text e
+printed_read_error (errors.Mismatch m) = printed_mismatch m
 
--- nothing is known of what is printed of a writer's error
+-- nothing is known of what is printed of other errors
 abbrev pub printed_write_error : WriteError → Option (List ℕ)
-printed_write_error writes.NotFinite = Some (codes "a float is not finite")
-printed_write_error writes.KeyKind = Some (codes "a key is no string")
-printed_write_error writes.Misplaced = Some (codes "a value is out of place")
-printed_write_error (writes.Custom message) = Some (inline_text message)
-printed_write_error writes.OutOfMemory = Some (codes "out of memory")
+printed_write_error (writes.Text e) = Some (error_text e)
+printed_write_error (writes.Value e) = None
 printed_write_error (writes.Io e) = None

@@ -9,11 +9,11 @@ use Rattle.simd_json_parts.specs.Nodes.{Item}
 use Rattle.simd_json_parts.specs.Pointed.{tilde}
 
 -- a key as a reference token (section 3): `~0` for `~`, `~1` for `/`
-abbrev pub escaped_character : ℕ → List ℕ
-escaped_character c = if c == tilde then codes "~0" else if c == slash then codes "~1" else encode_utf8 c
+abbrev pub token_character : ℕ → List ℕ
+token_character c = if c == tilde then codes "~0" else if c == slash then codes "~1" else encode_utf8 c
 
 abbrev pub key_token : List ℕ → List ℕ
-key_token key = slash ∷ flat_map escaped_character (chars key)
+key_token key = slash ∷ flat_map token_character (chars key)
 
 abbrev pub index_token : ℕ → List ℕ
 index_token i = slash ∷ decimal i

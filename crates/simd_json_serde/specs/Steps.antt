@@ -43,13 +43,6 @@ TakesNode old P new = (n : Item) × IsNodeTaken old n new × P old.at_key n
 abbrev pub Stands : Place → Document → Type 0
 Stands p d = (rest : List Item) × (drop p.at p.nodes ≡ listing d ++ rest)
 
-abbrev pub nodes_beneath : Item → ℕ
-nodes_beneath (static_item s) = 0
-nodes_beneath (decimal_item t) = 0
-nodes_beneath (string_item t) = 0
-nodes_beneath (array_item len count) = count
-nodes_beneath (object_item len count) = count
-
 -- ---- what a node says; the Bool says whether it is a key, which may spell a value
 
 abbrev pub IsBool : Bool → Bool → Item → Type 0

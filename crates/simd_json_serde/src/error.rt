@@ -58,7 +58,7 @@ pub(crate) type FaultName = InlineText<NAME_LEN>;
 /// Why a step of a [`NodeReader`](crate::NodeReader) failed.
 // The reader keeps the name: each step that returned it would make room for it.
 #[derive(Clone, Copy, Drop)]
-pub struct Fault {
+pub struct StepFault {
     pub(crate) kind: MismatchKind,
     // A node of the value.
     pub(crate) node: usize,
@@ -66,7 +66,7 @@ pub struct Fault {
     pub(crate) depth: usize,
 }
 
-impl Fault {
+impl StepFault {
     /// How the value and the type disagree.
     pub fn kind(&self) -> MismatchKind
         ensures { result ≡ self.now.kind }
@@ -87,7 +87,7 @@ impl Fault {
 /// the value that was read does not fit as a whole.
 #[derive(Drop)]
 pub struct Mismatch {
-    fault: Fault,
+    fault: StepFault,
     name: FaultName,
     path: String,
 }
@@ -106,7 +106,7 @@ impl Mismatch {
     #[cold]
     pub(crate) fn new(
         alloc: Global,
-        fault: Fault,
+        fault: StepFault,
         name: FaultName,
         nodes: Nodes<'_, '_>,
     ) -> Mismatch
@@ -130,18 +130,9 @@ impl Mismatch {
         ensures kind { result.fault.kind ≡ MismatchKind.OutOfMemory }
         ensures path { (d : Document) → HasPath d result }
     {
-        Mismatch::whole(alloc, MismatchKind::OutOfMemory)
-    }
-
-    // Of the value that was read, as a whole.
-    #[cold]
-    pub(crate) fn whole(alloc: Global, kind: MismatchKind) -> Mismatch
-        ensures kind { result.fault.kind ≡ kind }
-        ensures path { (d : Document) → HasPath d result }
-    {
         Mismatch {
-            fault: Fault {
-                kind,
+            fault: StepFault {
+                kind: MismatchKind::OutOfMemory,
                 node: 0,
                 depth: 0,
             },
@@ -244,44 +235,37 @@ impl std::error::Error for Mismatch {}
 
 /// Why nothing was read.
 #[derive(Debug, Drop)]
-pub enum Error {
+pub enum ReadError {
     /// The input is not a document within the limits, or an allocation of the parse failed.
     Parse(simd_json::Error),
     /// The input is a document that does not fit the type, or an allocation of the read failed.
     Mismatch(Mismatch),
 }
 
-impl Error {
+impl ReadError {
     ghost use Rattle.simd_json_parts.specs.Document.{Document};
-    ghost use Rattle.simd_json_serde.specs.Outcomes.{HasErrorPath, IsNoMemory, IsOf};
+    ghost use Rattle.simd_json_serde.specs.Outcomes.{HasErrorPath, IsNoMemory};
 
-    pub(crate) fn no_memory(alloc: Global) -> Error
+    pub(crate) fn no_memory(alloc: Global) -> ReadError
         ensures kind { IsNoMemory result }
         ensures path { (d : Document) → HasErrorPath d result }
     {
-        Error::Mismatch(Mismatch::no_memory(alloc))
-    }
-
-    // That an integer that was read does not fit its type.
-    pub(crate) fn unfit(alloc: Global) -> Error
-        ensures { IsOf MismatchKind.InvalidValue result }
-    {
-        Error::Mismatch(Mismatch::whole(alloc, MismatchKind::InvalidValue))
+        ReadError::Mismatch(Mismatch::no_memory(alloc))
     }
 }
 
-impl fmt::Display for Error {
+impl fmt::Display for ReadError {
     ghost use Rattle.std.specs.Prelude.{Some};
-    ghost use Rattle.simd_json_serde.specs.Messages.{printed_error};
+    ghost use Rattle.simd_json_serde.specs.Messages.{printed_read_error};
 
-    ghost output = { λ e. Some (printed_error e) };
+    ghost output = { λ e. Some (printed_read_error e) };
 
     fn fmt<W: fmt::Write>(&self, f: &mut fmt::Formatter<W>) -> fmt::Result {
         match self {
-            Error::Parse(e) => write!(f, "{e}"),
-            Error::Mismatch(e) => write!(f, "{e}"),
+            ReadError::Parse(e) => write!(f, "{e}"),
+            ReadError::Mismatch(e) => write!(f, "{e}"),
         }
     }
 }
 
-impl std::error::Error for Error {}
+impl std::error::Error for ReadError {}

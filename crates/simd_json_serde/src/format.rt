@@ -11,21 +11,22 @@ ghost use Rattle.serde.specs.Event.{boolean, signed as signed_event, unsigned as
 ghost use Rattle.serde.specs.Event.{single, double, character, text as text_event};
 ghost use Rattle.serde.specs.Event.{nothing, seq_begins, seq_ends, map_begins, map_ends};
 ghost use Rattle.serde.specs.Event.{key_begins, octets, struct_begins};
-ghost use Rattle.simd_json_serde.specs.Ahead.{ahead, truth, signed, unsigned, float, text};
+ghost use Rattle.simd_json_serde.specs.Ahead.{ahead, truth, signed, unsigned, float, string_text};
 ghost use Rattle.simd_json_serde.specs.Ahead.{kind_in, is_null, array_count, object_count};
 ghost use Rattle.simd_json_serde.specs.Ahead.{CanEnter, CanSkip, NothingIsLeft, AreBytesAhead};
 ghost use Rattle.simd_json_serde.specs.Faults.{reader_fault, length_fault, IsFull, IsOfNext};
-ghost use Rattle.simd_json_serde.specs.Places.{place, LiesAhead};
+ghost use Rattle.simd_json_serde.specs.Places.{spot, LiesAhead};
 ghost use Rattle.simd_json_parts.specs.Document.{Document};
+ghost use Rattle.simd_json_parts.specs.Headers.{count_of};
 ghost use Rattle.simd_json_parts.specs.Listing.{listing};
 ghost use Rattle.simd_json_parts.specs.Nodes.{Item, item_of};
 ghost use Rattle.simd_json_serde.specs.Nodes.{items_of};
 ghost use Rattle.simd_json_serde.specs.declared.node_reader.NodeReader.{NodeReader as SpecReader};
-ghost use Rattle.simd_json_serde.specs.Steps.{ReadsAs, PicksName, Stands, nodes_beneath};
+ghost use Rattle.simd_json_serde.specs.Steps.{ReadsAs, PicksName, Stands};
 ghost use Rattle.simd_json_serde.specs.Steps.{AreBytesAt, Closes};
 
-use crate::error::{Fault, MismatchKind};
-use crate::node_reader::{Mark, NodeReader, beneath};
+use crate::error::{MismatchKind, StepFault};
+use crate::node_reader::{Mark, NodeReader};
 use crate::numbers::is_integer_key;
 use serde::{Format, Kind, Name};
 use simd_json::{Node, StaticNode, ValueType};
@@ -33,22 +34,22 @@ use std::alloc::Global;
 use std::num::{nearest_i64_to_f32, nearest_u64_to_f32};
 
 impl<'n, 'i> Format for NodeReader<'n, 'i> {
-    type Error = Fault;
+    type Error = StepFault;
 
     type Mark = Mark;
 
-    ghost gives = { λ old _ e new. ReadsAs (place old) e (place new) };
+    ghost gives = { λ old _ e new. ReadsAs (spot old) e (spot new) };
 
     ghost picks = { λ old _ is_key names at new.
-        PicksName (place old) is_key names at (place new) };
+        PicksName (spot old) is_key names at (spot new) };
 
-    ghost stays = { λ old new. place new ≡ place old };
+    ghost stays = { λ old new. spot new ≡ spot old };
 
     #[inline(always)]
-    fn bool(&mut self, _input: &[u8]) -> Result<bool, Fault>
-        ensures given { IfOk result (λ v. ReadsAs (place self.old) (boolean v) (place self.new)) }
+    fn bool(&mut self, _input: &[u8]) -> Result<bool, StepFault>
+        ensures given { IfOk result (λ v. ReadsAs (spot self.old) (boolean v) (spot self.new)) }
         ensures exact { self.old.at_key ≡ false
-            → result_ok result ≡ ahead truth (place self.old) }
+            → result_ok result ≡ ahead truth (spot self.old) }
         ensures place { IfErr result (IsOfNext self.old) }
     {
         let at_key = self.at_key;
@@ -61,11 +62,11 @@ impl<'n, 'i> Format for NodeReader<'n, 'i> {
     }
 
     #[inline(always)]
-    fn i64(&mut self, _input: &[u8]) -> Result<i64, Fault>
+    fn i64(&mut self, _input: &[u8]) -> Result<i64, StepFault>
         ensures given { IfOk result
-            (λ v. ReadsAs (place self.old) (signed_event v) (place self.new)) }
+            (λ v. ReadsAs (spot self.old) (signed_event v) (spot self.new)) }
         ensures exact { self.old.at_key ≡ false
-            → result_ok result ≡ ahead (signed 64) (place self.old) }
+            → result_ok result ≡ ahead (signed 64) (spot self.old) }
         ensures place { IfErr result (IsOfNext self.old) }
     {
         let at_key = self.at_key;
@@ -83,11 +84,11 @@ impl<'n, 'i> Format for NodeReader<'n, 'i> {
     }
 
     #[inline(always)]
-    fn u64(&mut self, _input: &[u8]) -> Result<u64, Fault>
+    fn u64(&mut self, _input: &[u8]) -> Result<u64, StepFault>
         ensures given { IfOk result
-            (λ v. ReadsAs (place self.old) (unsigned_event v) (place self.new)) }
+            (λ v. ReadsAs (spot self.old) (unsigned_event v) (spot self.new)) }
         ensures exact { self.old.at_key ≡ false
-            → result_ok result ≡ ahead (unsigned 64) (place self.old) }
+            → result_ok result ≡ ahead (unsigned 64) (spot self.old) }
         ensures place { IfErr result (IsOfNext self.old) }
     {
         match self.nodes.natural(self.at) {
@@ -99,11 +100,11 @@ impl<'n, 'i> Format for NodeReader<'n, 'i> {
         }
     }
 
-    fn i128(&mut self, _input: &[u8]) -> Result<i128, Fault>
+    fn i128(&mut self, _input: &[u8]) -> Result<i128, StepFault>
         ensures given { IfOk result
-            (λ v. ReadsAs (place self.old) (signed_event v) (place self.new)) }
+            (λ v. ReadsAs (spot self.old) (signed_event v) (spot self.new)) }
         ensures exact { self.old.at_key ≡ false
-            → result_ok result ≡ ahead (signed 128) (place self.old) }
+            → result_ok result ≡ ahead (signed 128) (spot self.old) }
         ensures place { IfErr result (IsOfNext self.old) }
     {
         let at_key = self.at_key;
@@ -120,11 +121,11 @@ impl<'n, 'i> Format for NodeReader<'n, 'i> {
         }
     }
 
-    fn u128(&mut self, _input: &[u8]) -> Result<u128, Fault>
+    fn u128(&mut self, _input: &[u8]) -> Result<u128, StepFault>
         ensures given { IfOk result
-            (λ v. ReadsAs (place self.old) (unsigned_event v) (place self.new)) }
+            (λ v. ReadsAs (spot self.old) (unsigned_event v) (spot self.new)) }
         ensures exact { self.old.at_key ≡ false
-            → result_ok result ≡ ahead (unsigned 128) (place self.old) }
+            → result_ok result ≡ ahead (unsigned 128) (spot self.old) }
         ensures place { IfErr result (IsOfNext self.old) }
     {
         let at_key = self.at_key;
@@ -141,9 +142,9 @@ impl<'n, 'i> Format for NodeReader<'n, 'i> {
         }
     }
 
-    fn f32(&mut self, _input: &[u8]) -> Result<f32, Fault>
-        ensures given { IfOk result (λ v. ReadsAs (place self.old) (single v) (place self.new)) }
-        ensures exact { result_ok result ≡ ahead (float binary32) (place self.old) }
+    fn f32(&mut self, _input: &[u8]) -> Result<f32, StepFault>
+        ensures given { IfOk result (λ v. ReadsAs (spot self.old) (single v) (spot self.new)) }
+        ensures exact { result_ok result ≡ ahead (float binary32) (spot self.old) }
         ensures place { IfErr result (IsOfNext self.old) }
     {
         let mut digits = itoa::Buffer::new();
@@ -158,9 +159,9 @@ impl<'n, 'i> Format for NodeReader<'n, 'i> {
     }
 
     #[inline(always)]
-    fn f64(&mut self, _input: &[u8]) -> Result<f64, Fault>
-        ensures given { IfOk result (λ v. ReadsAs (place self.old) (double v) (place self.new)) }
-        ensures exact { result_ok result ≡ ahead (float binary64) (place self.old) }
+    fn f64(&mut self, _input: &[u8]) -> Result<f64, StepFault>
+        ensures given { IfOk result (λ v. ReadsAs (spot self.old) (double v) (spot self.new)) }
+        ensures exact { result_ok result ≡ ahead (float binary64) (spot self.old) }
         ensures place { IfErr result (IsOfNext self.old) }
     {
         match self.nodes.literal(self.at) {
@@ -172,11 +173,11 @@ impl<'n, 'i> Format for NodeReader<'n, 'i> {
         }
     }
 
-    fn char(&mut self, _input: &[u8]) -> Result<char, Fault>
-        ensures given { IfOk result (λ v. ReadsAs (place self.old) (character v) (place self.new)) }
-        ensures ok { IfOk result (λ c. ahead text (place self.old) ≡ Some (encode_utf8 c)) }
+    fn char(&mut self, _input: &[u8]) -> Result<char, StepFault>
+        ensures given { IfOk result (λ v. ReadsAs (spot self.old) (character v) (spot self.new)) }
+        ensures ok { IfOk result (λ c. ahead string_text (spot self.old) ≡ Some (encode_utf8 c)) }
         ensures err { OnErr result ((c : ℕ) → IsScalar c
-            → ahead text (place self.old) ≢ Some (encode_utf8 c)) }
+            → ahead string_text (spot self.old) ≢ Some (encode_utf8 c)) }
         ensures place { IfErr result (IsOfNext self.old) }
     {
         match self.take_string()?.parse::<char>() {
@@ -188,9 +189,9 @@ impl<'n, 'i> Format for NodeReader<'n, 'i> {
     // Where the string is in the input. The bytes there are compared, so that nothing else has to
     // be known of them.
     #[inline(always)]
-    fn plain_str(&mut self, input: &[u8]) -> Result<(usize, usize), Fault>
-        ensures given { IfOk result (λ r. ReadsAs (place self.old)
-            (text_event (slice_range input.now r.0 r.1)) (place self.new)) }
+    fn plain_str(&mut self, input: &[u8]) -> Result<(usize, usize), StepFault>
+        ensures given { IfOk result (λ r. ReadsAs (spot self.old)
+            (text_event (slice_range input.now r.0 r.1)) (spot self.new)) }
         ensures err { OnErr result (LiesAhead self.old input.now → ⊥) }
         ensures place { IfErr result (IsOfNext self.old) }
     {
@@ -207,9 +208,9 @@ impl<'n, 'i> Format for NodeReader<'n, 'i> {
         }
     }
 
-    fn plain_bytes(&mut self, input: &[u8]) -> Result<(usize, usize), Fault>
-        ensures given { IfOk result (λ r. ReadsAs (place self.old)
-            (octets (slice_range input.now r.0 r.1)) (place self.new)) }
+    fn plain_bytes(&mut self, input: &[u8]) -> Result<(usize, usize), StepFault>
+        ensures given { IfOk result (λ r. ReadsAs (spot self.old)
+            (octets (slice_range input.now r.0 r.1)) (spot self.new)) }
         ensures err { OnErr result (LiesAhead self.old input.now → ⊥) }
         ensures place { IfErr result (IsOfNext self.old) }
     {
@@ -217,12 +218,12 @@ impl<'n, 'i> Format for NodeReader<'n, 'i> {
     }
 
     #[inline(always)]
-    fn string(&mut self, alloc: Global, _input: &[u8]) -> Result<String, Fault>
+    fn string(&mut self, alloc: Global, _input: &[u8]) -> Result<String, StepFault>
         ensures given { IfOk result
-            (λ v. ReadsAs (place self.old) (text_event (string_bytes v)) (place self.new)) }
-        ensures ok { IfOk result (λ s. ahead text (place self.old) ≡ Some (string_bytes s)) }
+            (λ v. ReadsAs (spot self.old) (text_event (string_bytes v)) (spot self.new)) }
+        ensures ok { IfOk result (λ s. ahead string_text (spot self.old) ≡ Some (string_bytes s)) }
         ensures err { IfErr result (λ e. (e.kind ≡ MismatchKind.OutOfMemory)
-            ⊎ (ahead text (place self.old) ≡ None)) }
+            ⊎ (ahead string_text (spot self.old) ≡ None)) }
         ensures place { IfErr result (IsOfNext self.old) }
     {
         match String::from_str(alloc, self.take_string()?) {
@@ -232,12 +233,12 @@ impl<'n, 'i> Format for NodeReader<'n, 'i> {
     }
 
     // A string, or an array of integers.
-    fn byte_buf(&mut self, alloc: Global, input: &[u8]) -> Result<Vec<u8>, Fault>
+    fn byte_buf(&mut self, alloc: Global, input: &[u8]) -> Result<Vec<u8>, StepFault>
         ensures given { IfOk result
-            (λ v. ReadsAs (place self.old) (octets v.items) (place self.new)) }
+            (λ v. ReadsAs (spot self.old) (octets v.items) (spot self.new)) }
         ensures err { IfErr result (λ e. (bytes : List ℕ)
-            → AreBytesAhead (place self.old) bytes → e.kind ≡ MismatchKind.OutOfMemory) }
-        ensures place { IfErr result (λ e. ahead array_count (place self.old) ≡ None
+            → AreBytesAhead (spot self.old) bytes → e.kind ≡ MismatchKind.OutOfMemory) }
+        ensures place { IfErr result (λ e. ahead array_count (spot self.old) ≡ None
             → IsOfNext self.old e) }
     {
         if let Node::String(_) = self.look()? {
@@ -250,10 +251,10 @@ impl<'n, 'i> Format for NodeReader<'n, 'i> {
         self.bytes_inside(alloc, input)
     }
 
-    fn peek(&mut self, _input: &[u8]) -> Result<Kind, Fault>
-        ensures stays { OnOk result (place self.new ≡ place self.old) }
+    fn peek(&mut self, _input: &[u8]) -> Result<Kind, StepFault>
+        ensures stays { OnOk result (spot self.new ≡ spot self.old) }
         ensures exact { result_ok result
-            ≡ ahead (λ item. Some (kind_in item)) (place self.old) }
+            ≡ ahead (λ item. Some (kind_in item)) (spot self.old) }
         ensures place { IfErr result (IsOfNext self.old) }
     {
         let node = self.look()?;
@@ -262,12 +263,12 @@ impl<'n, 'i> Format for NodeReader<'n, 'i> {
     }
 
     #[inline(always)]
-    fn take_unit(&mut self, _input: &[u8]) -> Result<bool, Fault>
+    fn take_unit(&mut self, _input: &[u8]) -> Result<bool, StepFault>
         ensures given { IfOk result
-            (λ b. MatchBool b (ReadsAs (place self.old) nothing (place self.new))
-            (place self.new ≡ place self.old)) }
+            (λ b. MatchBool b (ReadsAs (spot self.old) nothing (spot self.new))
+            (spot self.new ≡ spot self.old)) }
         ensures exact { result_ok result
-            ≡ ahead (λ item. Some (is_null item)) (place self.old) }
+            ≡ ahead (λ item. Some (is_null item)) (spot self.old) }
         ensures place { IfErr result (IsOfNext self.old) }
     {
         if let Node::Static(StaticNode::Null) = self.look()? {
@@ -279,21 +280,21 @@ impl<'n, 'i> Format for NodeReader<'n, 'i> {
     }
 
     #[inline(always)]
-    fn take_none(&mut self, input: &[u8]) -> Result<bool, Fault>
+    fn take_none(&mut self, input: &[u8]) -> Result<bool, StepFault>
         ensures given { IfOk result
-            (λ b. MatchBool b (ReadsAs (place self.old) nothing (place self.new))
-            (place self.new ≡ place self.old)) }
+            (λ b. MatchBool b (ReadsAs (spot self.old) nothing (spot self.new))
+            (spot self.new ≡ spot self.old)) }
         ensures exact { result_ok result
-            ≡ ahead (λ item. Some (is_null item)) (place self.old) }
+            ≡ ahead (λ item. Some (is_null item)) (spot self.old) }
         ensures place { IfErr result (IsOfNext self.old) }
     {
         self.take_unit(input)
     }
 
     #[inline(always)]
-    fn begin_seq(&mut self, _input: &[u8]) -> Result<(), Fault>
-        ensures given { OnOk result (ReadsAs (place self.old) (seq_begins None) (place self.new)) }
-        ensures err { IfErr result (λ e. CanEnter array_count (place self.old)
+    fn begin_seq(&mut self, _input: &[u8]) -> Result<(), StepFault>
+        ensures given { OnOk result (ReadsAs (spot self.old) (seq_begins None) (spot self.new)) }
+        ensures err { IfErr result (λ e. CanEnter array_count (spot self.old)
             → IsFull self.old e) }
         ensures place { IfErr result (IsOfNext self.old) }
     {
@@ -304,11 +305,11 @@ impl<'n, 'i> Format for NodeReader<'n, 'i> {
     }
 
     #[inline(always)]
-    fn next_item(&mut self, _input: &[u8]) -> Result<bool, Fault>
-        ensures given { IfOk result (λ b. MatchBool b (place self.new ≡ place self.old)
-            (ReadsAs (place self.old) seq_ends (place self.new))) }
+    fn next_item(&mut self, _input: &[u8]) -> Result<bool, StepFault>
+        ensures given { IfOk result (λ b. MatchBool b (spot self.new ≡ spot self.old)
+            (ReadsAs (spot self.old) seq_ends (spot self.new))) }
         ensures more { IfOk result (λ b. b ≡ nat_lt self.old.at self.old.end) }
-        ensures err { OnErr result (NothingIsLeft (place self.old)) }
+        ensures err { OnErr result (NothingIsLeft (spot self.old)) }
         ensures place { IfErr result (IsOfNext self.old) }
     {
         if self.at < self.end {
@@ -320,9 +321,9 @@ impl<'n, 'i> Format for NodeReader<'n, 'i> {
     }
 
     #[inline(always)]
-    fn begin_map(&mut self, _input: &[u8]) -> Result<(), Fault>
-        ensures given { OnOk result (ReadsAs (place self.old) (map_begins None) (place self.new)) }
-        ensures err { IfErr result (λ e. CanEnter object_count (place self.old)
+    fn begin_map(&mut self, _input: &[u8]) -> Result<(), StepFault>
+        ensures given { OnOk result (ReadsAs (spot self.old) (map_begins None) (spot self.new)) }
+        ensures err { IfErr result (λ e. CanEnter object_count (spot self.old)
             → IsFull self.old e) }
         ensures place { IfErr result (IsOfNext self.old) }
     {
@@ -333,15 +334,15 @@ impl<'n, 'i> Format for NodeReader<'n, 'i> {
     }
 
     #[inline(always)]
-    fn begin_struct(&mut self, _input: &[u8]) -> Result<bool, Fault>
+    fn begin_struct(&mut self, _input: &[u8]) -> Result<bool, StepFault>
         ensures given { IfOk result
-            (λ b. ReadsAs (place self.old) (struct_begins b) (place self.new)
-            ⊎ ((looked : SpecReader) × (place looked ≡ place self.old)
-            × ReadsAs (place looked) (struct_begins b) (place self.new))) }
+            (λ b. ReadsAs (spot self.old) (struct_begins b) (spot self.new)
+            ⊎ ((looked : SpecReader) × (spot looked ≡ spot self.old)
+            × ReadsAs (spot looked) (struct_begins b) (spot self.new))) }
         ensures header { IfOk result
-            (λ b. ReadsAs (place self.old) (struct_begins b) (place self.new)) }
-        ensures err { IfErr result (λ e. CanEnter array_count (place self.old)
-            ⊎ CanEnter object_count (place self.old) → IsFull self.old e) }
+            (λ b. ReadsAs (spot self.old) (struct_begins b) (spot self.new)) }
+        ensures err { IfErr result (λ e. CanEnter array_count (spot self.old)
+            ⊎ CanEnter object_count (spot self.old) → IsFull self.old e) }
         ensures place { IfErr result (IsOfNext self.old) }
     {
         match self.take()? {
@@ -358,13 +359,13 @@ impl<'n, 'i> Format for NodeReader<'n, 'i> {
     }
 
     #[inline(always)]
-    fn next_key(&mut self, _input: &[u8], names: &[Name<'_>]) -> Result<Option<usize>, Fault>
+    fn next_key(&mut self, _input: &[u8], names: &[Name<'_>]) -> Result<Option<usize>, StepFault>
         ensures given { IfOk result
-            (λ o. MatchOption o (ReadsAs (place self.old) map_ends (place self.new))
-            (λ at. PicksName (place self.old) true names.now at (place self.new))) }
+            (λ o. MatchOption o (ReadsAs (spot self.old) map_ends (spot self.new))
+            (λ at. PicksName (spot self.old) true names.now at (spot self.new))) }
         ensures more { IfOk result (λ o. is_some o ≡ nat_lt self.old.at self.old.end) }
         ensures err { OnErr result
-            (NothingIsLeft (place self.old) ⊎ (ahead text (place self.old) ≡ None)) }
+            (NothingIsLeft (spot self.old) ⊎ (ahead string_text (spot self.old) ≡ None)) }
         ensures place { IfErr result (IsOfNext self.old) }
     {
         if self.at < self.end {
@@ -375,12 +376,12 @@ impl<'n, 'i> Format for NodeReader<'n, 'i> {
     }
 
     #[inline(always)]
-    fn next_entry(&mut self, _input: &[u8]) -> Result<bool, Fault>
+    fn next_entry(&mut self, _input: &[u8]) -> Result<bool, StepFault>
         ensures given { IfOk result
-            (λ b. MatchBool b (ReadsAs (place self.old) key_begins (place self.new))
-            (ReadsAs (place self.old) map_ends (place self.new))) }
+            (λ b. MatchBool b (ReadsAs (spot self.old) key_begins (spot self.new))
+            (ReadsAs (spot self.old) map_ends (spot self.new))) }
         ensures more { IfOk result (λ b. b ≡ nat_lt self.old.at self.old.end) }
-        ensures err { OnErr result (NothingIsLeft (place self.old)) }
+        ensures err { OnErr result (NothingIsLeft (spot self.old)) }
         ensures place { IfErr result (IsOfNext self.old) }
     {
         if self.at < self.end {
@@ -391,10 +392,10 @@ impl<'n, 'i> Format for NodeReader<'n, 'i> {
         Ok(false)
     }
 
-    fn variant(&mut self, _input: &[u8], names: &[Name<'_>]) -> Result<usize, Fault>
+    fn variant(&mut self, _input: &[u8], names: &[Name<'_>]) -> Result<usize, StepFault>
         ensures given { IfOk result
-            (λ at. PicksName (place self.old) false names.now at (place self.new)) }
-        ensures err { OnErr result (ahead text (place self.old) ≡ None) }
+            (λ at. PicksName (spot self.old) false names.now at (spot self.new)) }
+        ensures err { OnErr result (ahead string_text (spot self.old) ≡ None) }
         ensures place { IfErr result (IsOfNext self.old) }
     {
         Ok(serde::find(names, self.take_string()?))
@@ -402,20 +403,20 @@ impl<'n, 'i> Format for NodeReader<'n, 'i> {
 
     // A container's members are passed in one step.
     #[inline(always)]
-    fn skip(&mut self, _input: &[u8]) -> Result<(), Fault>
+    fn skip(&mut self, _input: &[u8]) -> Result<(), StepFault>
         ensures passed { OnOk result ((item : Item)
             × (slice_get (items_of self.old.nodes) self.old.at ≡ Some item)
-            × (place self.new ≡ record (place self.old) {
-              at = self.old.at + 1 + nodes_beneath item;
+            × (spot self.new ≡ record (spot self.old) {
+              at = self.old.at + 1 + count_of item;
               at_key = false;
             })) }
-        ensures value { OnOk result ((d : Document) → Stands (place self.old) d
+        ensures value { OnOk result ((d : Document) → Stands (spot self.old) d
             → self.new.at ≡ self.old.at + length (listing d)) }
-        ensures err { OnErr result (CanSkip (place self.old) → ⊥) }
+        ensures err { OnErr result (CanSkip (spot self.old) → ⊥) }
         ensures place { IfErr result (IsOfNext self.old) }
     {
         let node = self.take()?;
-        let count = beneath(&node);
+        let count = node.count();
         let Some(at) = self.at.checked_add(count) else {
             return Err(self.fault(MismatchKind::MissingValue));
         };
@@ -424,7 +425,7 @@ impl<'n, 'i> Format for NodeReader<'n, 'i> {
     }
 
     fn mark(&mut self) -> Mark
-        ensures stays { place self.new ≡ place self.old }
+        ensures stays { spot self.new ≡ spot self.old }
         ensures here { (result.at ≡ self.old.at) × (result.end ≡ self.old.end)
             × (result.depth ≡ length self.old.outer.items)
             × (result.at_key ≡ self.old.at_key) }
@@ -438,7 +439,7 @@ impl<'n, 'i> Format for NodeReader<'n, 'i> {
     }
 
     fn rewind(&mut self, mark: Mark)
-        ensures { place self.new ≡ record (place self.old) {
+        ensures { spot self.new ≡ record (spot self.old) {
           at = mark.at;
           end = mark.end;
           at_key = mark.at_key;
@@ -453,38 +454,38 @@ impl<'n, 'i> Format for NodeReader<'n, 'i> {
     }
 
     fn release(&mut self, _mark: Mark)
-        ensures { place self.new ≡ place self.old }
+        ensures { spot self.new ≡ spot self.old }
     {}
 
-    fn is_fatal(&self, error: &Fault) -> bool
+    fn is_fatal(&self, error: &StepFault) -> bool
         ensures { IsTrue result ↔ (error.now.kind ≡ MismatchKind.OutOfMemory) }
     {
         error.is_memory()
     }
 
     #[cold]
-    fn missing(&self, name: &str) -> Fault
+    fn missing(&self, name: &str) -> StepFault
         ensures { result ≡ reader_fault self.now MismatchKind.MissingField }
     {
         self.named_fault(MismatchKind::MissingField, name)
     }
 
     #[cold]
-    fn duplicate(&self, name: &str) -> Fault
+    fn duplicate(&self, name: &str) -> StepFault
         ensures { result ≡ reader_fault self.now MismatchKind.DuplicateField }
     {
         self.named_fault(MismatchKind::DuplicateField, name)
     }
 
     #[cold]
-    fn unknown_key(&self) -> Fault
+    fn unknown_key(&self) -> StepFault
         ensures { result ≡ reader_fault self.now MismatchKind.UnknownField }
     {
         self.fault(MismatchKind::UnknownField)
     }
 
     #[cold]
-    fn unknown_variant(&self) -> Fault
+    fn unknown_variant(&self) -> StepFault
         ensures { result ≡ reader_fault self.now MismatchKind.UnknownVariant }
     {
         self.fault(MismatchKind::UnknownVariant)
@@ -492,7 +493,7 @@ impl<'n, 'i> Format for NodeReader<'n, 'i> {
 
     // Where an item was seen, the array was not left yet.
     #[cold]
-    fn wrong_len(&self) -> Fault
+    fn wrong_len(&self) -> StepFault
         ensures { result ≡ length_fault self.now }
     {
         let mut fault = self.fault(MismatchKind::InvalidLength);
@@ -503,21 +504,21 @@ impl<'n, 'i> Format for NodeReader<'n, 'i> {
     }
 
     #[cold]
-    fn invalid(&self) -> Fault
+    fn invalid(&self) -> StepFault
         ensures { result ≡ reader_fault self.now MismatchKind.InvalidValue }
     {
         self.fault(MismatchKind::InvalidValue)
     }
 
     #[cold]
-    fn no_memory(&self) -> Fault
+    fn no_memory(&self) -> StepFault
         ensures { result ≡ reader_fault self.now MismatchKind.OutOfMemory }
     {
         self.fault(MismatchKind::OutOfMemory)
     }
 
     #[cold]
-    fn custom(&self, message: &str) -> Fault
+    fn custom(&self, message: &str) -> StepFault
         ensures { result ≡ reader_fault self.now MismatchKind.Custom }
     {
         self.named_fault(MismatchKind::Custom, message)
@@ -526,14 +527,14 @@ impl<'n, 'i> Format for NodeReader<'n, 'i> {
 
 impl<'n, 'i> NodeReader<'n, 'i> {
     // The integers of the array that is open, as bytes.
-    fn bytes_inside(&mut self, alloc: Global, input: &[u8]) -> Result<Vec<u8>, Fault>
+    fn bytes_inside(&mut self, alloc: Global, input: &[u8]) -> Result<Vec<u8>, StepFault>
         requires at { self.old.at ≤ self.old.end }
         requires value { self.old.at_key ≡ false }
         requires open { self.old.outer.items ≢ [] }
         ensures given { IfOk result (λ v. AreBytesAt (items_of self.old.nodes) self.old.at v.items
             × (self.old.at + length v.items ≡ self.old.end)) }
         ensures closed { OnOk result
-            (Closes (record (place self.old) { at = self.old.end }) (place self.new)) }
+            (Closes (record (spot self.old) { at = self.old.end }) (spot self.new)) }
         ensures err { IfErr result (λ e. (bytes : List ℕ)
             → self.old.at + length bytes ≡ self.old.end
             → AreBytesAt (items_of self.old.nodes) self.old.at bytes

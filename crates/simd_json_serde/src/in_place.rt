@@ -8,7 +8,7 @@ ghost use Rattle.simd_json.specs.Capacities.{KeepsCapacities, capacity};
 ghost use Rattle.simd_json.specs.Parsed.{IsRejected};
 ghost use Rattle.simd_json_stages.specs.Capacities.{IsOutOfMemory};
 ghost use Rattle.simd_json_parts.specs.Nodes.{item_of};
-ghost use Rattle.simd_json_serde.specs.Ahead.{literal, natural, text};
+ghost use Rattle.simd_json_serde.specs.Ahead.{decimal_text, natural, string_text};
 ghost use Rattle.simd_json_serde.specs.KeptNodes.{IsPlacedIn, IsTextAt, LiesWithin, item_in};
 ghost use Rattle.simd_json_serde.specs.KeptNodes.{string_start};
 
@@ -44,18 +44,18 @@ pub(crate) fn parse_in_place(
 
 /// The nodes that a parse in place left, and the input, in which their texts lie.
 #[derive(Clone, Copy, Drop)]
-pub(crate) struct InPlace<'n, 'i> {
+pub(crate) struct PlacedNodes<'n, 'i> {
     pub(crate) nodes: &'n [KeptNode],
     pub(crate) input: &'i [u8],
     ghost lie: { All (LiesWithin input.now) nodes.now },
 }
 
-impl<'n, 'i> InPlace<'n, 'i> {
-    pub(crate) fn new(nodes: &'n [KeptNode], input: &'i [u8]) -> InPlace<'n, 'i>
+impl<'n, 'i> PlacedNodes<'n, 'i> {
+    pub(crate) fn new(nodes: &'n [KeptNode], input: &'i [u8]) -> PlacedNodes<'n, 'i>
         requires { All (LiesWithin input.now) nodes.now }
         ensures { (result.nodes.now ≡ nodes.now) × (result.input.now ≡ input.now) }
     {
-        InPlace { nodes, input }
+        PlacedNodes { nodes, input }
     }
 
     #[inline(always)]
@@ -87,7 +87,7 @@ impl<'n, 'i> InPlace<'n, 'i> {
     #[inline(always)]
     pub(crate) fn string(&self, at: usize) -> Option<&'i str>
         ensures { option_map (λ s. s.now) result
-            ≡ option_and_then text
+            ≡ option_and_then string_text
             (slice_get (map (item_in self.now.input.now) self.now.nodes.now) at) }
     {
         match self.kept(at) {
@@ -110,7 +110,7 @@ impl<'n, 'i> InPlace<'n, 'i> {
     #[inline(always)]
     pub(crate) fn literal(&self, at: usize) -> Option<&'i str>
         ensures { option_map (λ s. s.now) result
-            ≡ option_and_then literal
+            ≡ option_and_then decimal_text
             (slice_get (map (item_in self.now.input.now) self.now.nodes.now) at) }
     {
         match self.kept(at) {

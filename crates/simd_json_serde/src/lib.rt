@@ -4,6 +4,7 @@
 //!
 //! ```
 //! use serde::Deserialize;
+//! use simd_json_serde::{ReadError, from_slice_mut};
 //! use std::alloc::Global;
 //!
 //! #[derive(Drop, Deserialize)]
@@ -13,8 +14,8 @@
 //! }
 //!
 //! // The status of a line of a log, as `{"level":"info","status":200}`.
-//! fn status(alloc: Global, input: &mut [u8]) -> Result<u16, simd_json_serde::Error> {
-//!     let line: Line = simd_json_serde::from_slice_owned(alloc, input)?;
+//! fn status(alloc: Global, input: &mut [u8]) -> Result<u16, ReadError> {
+//!     let line: Line = from_slice_mut(alloc, input)?;
 //!     Ok(line.status)
 //! }
 //! ```
@@ -23,18 +24,19 @@
 //!
 //! | to read | call |
 //! |---|---|
-//! | a type that owns its strings | [`from_slice_owned`] |
-//! | a type that borrows strings, as `&str` or `CowStr` | [`from_slice`] |
-//! | its strings, where much of them is not ASCII | [`borrowed_str`] |
-//! | many inputs with the same memory | [`read_owned`], [`read`] with [`Kept`] |
+//! | a type, from an input that is overwritten | [`from_slice_mut`] |
+//! | a type that is only known to own all (`T: DeserializeOwned`) | [`from_slice_mut_owned`] |
+//! | many inputs with the same memory | [`from_slice_mut_with`], .. with a [`Scratch`] |
+//! | a field of type `&str`, where much of it is not ASCII | [`borrowed_str`] |
 //! | a value of a tape, as one that `pointer` leads to | [`from_value`] |
 //! | a whole tape | [`from_tape`] |
-//! | a scalar, with a contract | [`bool_of`], [`u64_of`], [`f64_of`], [`string_of`], .. |
 //! | nodes, by a `Deserialize` of your own | [`NodeReader`] |
 //!
-//! To write a type, call [`to_string`], [`to_vec`] or [`to_writer`], or a `_pretty` form. A float
-//! is written as the shortest literal that reads as it; one that is not finite is an error. A key
-//! may be a string, a number or a truth value.
+//! To write a type, call [`to_string`], [`to_vec`] or [`to_writer`], or a `_pretty` form. The
+//! toolchain's `serde_json` makes the text: a float is written as the shortest literal that reads as
+//! it, or as `null` if it is not finite. A key may be a string, a number or a truth value. Each text
+//! is checked before it is returned: a `Serialize` that is written by hand may have its steps in an
+//! order of which no JSON text comes.
 //!
 //! All that the derives read is read: structs, `Option`, `Vec`, tuples, maps, enums with or without
 //! a tag, `flatten`, `default`, `rename`, `deny_unknown_fields`, recursive types. Integers of all
@@ -43,7 +45,7 @@
 //!
 //! # Errors
 //!
-//! [`Error::Parse`] is the parse's error, with its kind, index and character. [`Error::Mismatch`]
+//! [`ReadError::Parse`] is the parse's error, with its kind, index and character. [`ReadError::Mismatch`]
 //! says how a document does not fit the type, and where, as
 //! `/statuses/3/user/id: expected an integer, found a string`: the path is a JSON Pointer
 //! (RFC 6901), found only after the read failed.
@@ -77,40 +79,32 @@
 //! accessor of `simd_json` has one. The path of a mismatch is the way to the node that its error is
 //! of (`way`), and it prints this path and the words of its kind.
 //!
-//! A text that is written is that of the document to which the events lead that the value sends, in
-//! their order (`IsPrinted`): of a number, a truth value, a string, `()` and `None` the one literal
-//! (of a float one that reads as it), of a `Vec`, a tuple or a map the texts of its members. A step
-//! fails for memory, out of place, or for a key or a float without text, and for nothing else
-//! (`specs/WriteFaults.antt`). What `collect_str` writes is what `Display` prints.
+//! A text that is written is a document (RFC 8259), compact or pretty, with the tokens of the
+//! events that the value sends, in their order, where its `Serialize` says which it sends
+//! (`IsPrinted`). The writer gets all of it, a beginning if it fails, and nothing of a value that has
+//! no text (`WritesText`).
 //!
 //! Not proved, but tested beside `serde_json`: that a derived type is read as the document says,
 //! and what it sends, since derives have no contract.
 #![tactic(auto)]
 
-mod draft;
 mod error;
 mod format;
 mod in_place;
 mod kept_node;
-mod log;
 mod node_reader;
 mod nodes;
 mod numbers;
 mod path;
 mod reading;
-mod scalars;
-mod text_writer;
 mod write_error;
 mod writing;
 
-pub use error::{Error, Fault, Mismatch, MismatchKind};
+pub use error::{Mismatch, MismatchKind, ReadError, StepFault};
 pub use node_reader::{Mark, NodeReader};
 pub use reading::{
-    Kept, borrowed_str, from_slice, from_slice_owned, from_tape, from_value, read, read_owned,
-};
-pub use scalars::{
-    bool_of, char_of, f32_of, f64_of, i8_of, i16_of, i32_of, i64_of, i128_of, string_of, u8_of,
-    u16_of, u32_of, u64_of, u128_of,
+    Scratch, borrowed_str, from_slice_mut, from_slice_mut_owned, from_slice_mut_owned_with,
+    from_slice_mut_with, from_tape, from_value,
 };
 pub use write_error::WriteError;
 pub use writing::{

@@ -5,12 +5,12 @@ ghost use Rattle.std.specs.Result.{result_ok};
 ghost use Rattle.simd_json_parts.specs.Nodes.{item_of, string_item};
 ghost use Rattle.simd_json_parts.specs.NodeTypes.{item_type};
 ghost use Rattle.simd_json_serde.specs.Nodes.{items_of};
-ghost use Rattle.simd_json_serde.specs.Steps.{IsNodeTaken, TakesNode, first_place, nodes_beneath};
-ghost use Rattle.simd_json_serde.specs.Places.{place};
-ghost use Rattle.simd_json_serde.specs.Ahead.{ahead, node_ahead, text};
+ghost use Rattle.simd_json_serde.specs.Steps.{IsNodeTaken, TakesNode, first_place};
+ghost use Rattle.simd_json_serde.specs.Places.{spot};
+ghost use Rattle.simd_json_serde.specs.Ahead.{ahead, node_ahead, string_text};
 ghost use Rattle.simd_json_serde.specs.Faults.{reader_fault, IsFull, IsOfNext};
 
-use crate::error::{Fault, FaultName, MismatchKind};
+use crate::error::{FaultName, MismatchKind, StepFault};
 use crate::nodes::Nodes;
 use simd_json::{Node, ValueType};
 use std::cell::Cell;
@@ -46,14 +46,14 @@ impl<'n, 'i> NodeReader<'n, 'i> {
     /// Begins at the first node. The list is used for the containers that are open: what it holds
     /// does not matter.
     pub fn new(nodes: &'n [Node<'i>], outer: Vec<usize>) -> NodeReader<'n, 'i>
-        ensures { place result ≡ first_place (map item_of nodes.now) }
+        ensures { spot result ≡ first_place (map item_of nodes.now) }
     {
         NodeReader::of(Nodes::Listed(nodes), outer)
     }
 
     // The same of other nodes.
     pub(crate) fn of(nodes: Nodes<'n, 'i>, mut outer: Vec<usize>) -> NodeReader<'n, 'i>
-        ensures place { place result ≡ first_place (items_of nodes.entry) }
+        ensures place { spot result ≡ first_place (items_of nodes.entry) }
         ensures nodes { result.nodes ≡ nodes.entry }
     {
         outer.clear();
@@ -77,7 +77,7 @@ impl<'n, 'i> NodeReader<'n, 'i> {
     // That the value does not fit, with a name.
     #[cold]
     #[inline(never)]
-    pub(crate) fn named_fault(&self, kind: MismatchKind, name: &str) -> Fault
+    pub(crate) fn named_fault(&self, kind: MismatchKind, name: &str) -> StepFault
         ensures { result ≡ reader_fault self.now kind }
     {
         self.name.set(FaultName::of(name));
@@ -93,7 +93,7 @@ impl<'n, 'i> NodeReader<'n, 'i> {
     // node, on the level that the reader is on.
     #[cold]
     #[inline(never)]
-    pub(crate) fn fault(&self, kind: MismatchKind) -> Fault
+    pub(crate) fn fault(&self, kind: MismatchKind) -> StepFault
         ensures { result ≡ reader_fault self.now kind }
     {
         let node = if self.looked {
@@ -101,7 +101,7 @@ impl<'n, 'i> NodeReader<'n, 'i> {
         } else {
             self.at.saturating_sub(1)
         };
-        Fault {
+        StepFault {
             kind,
             node,
             depth: self.outer.len(),
@@ -110,7 +110,7 @@ impl<'n, 'i> NodeReader<'n, 'i> {
 
     #[cold]
     #[inline(never)]
-    pub(crate) fn unexpected(&self, expected: ValueType, got: Node<'i>) -> Fault
+    pub(crate) fn unexpected(&self, expected: ValueType, got: Node<'i>) -> StepFault
         ensures { result ≡ reader_fault self.now (MismatchKind.InvalidType expected
             (item_type (item_of got.entry))) }
     {
@@ -120,10 +120,10 @@ impl<'n, 'i> NodeReader<'n, 'i> {
 
     // The next node of the innermost container.
     #[inline(always)]
-    pub(crate) fn look(&self) -> Result<Node<'i>, Fault>
+    pub(crate) fn look(&self) -> Result<Node<'i>, StepFault>
         ensures taken { IfOk result (λ n. (self.now.at < self.now.end)
             × (slice_get (items_of self.now.nodes) self.now.at ≡ Some (item_of n))) }
-        ensures exact { option_map item_of (result_ok result) ≡ node_ahead (place self.now) }
+        ensures exact { option_map item_of (result_ok result) ≡ node_ahead (spot self.now) }
         ensures none { IfErr result (λ e. e ≡ reader_fault self.now MismatchKind.MissingValue) }
     {
         match self.nodes.get(self.at) {
@@ -134,10 +134,10 @@ impl<'n, 'i> NodeReader<'n, 'i> {
 
     // The next node, which is passed.
     #[inline(always)]
-    pub(crate) fn take(&mut self) -> Result<Node<'i>, Fault>
+    pub(crate) fn take(&mut self) -> Result<Node<'i>, StepFault>
         ensures taken { IfOk result
-            (λ n. IsNodeTaken (place self.old) (item_of n) (place self.new)) }
-        ensures exact { option_map item_of (result_ok result) ≡ node_ahead (place self.old) }
+            (λ n. IsNodeTaken (spot self.old) (item_of n) (spot self.new)) }
+        ensures exact { option_map item_of (result_ok result) ≡ node_ahead (spot self.old) }
         ensures kept { self.new.outer ≡ self.old.outer }
         ensures fresh { OnOk result (self.new.looked ≡ false) }
         ensures none { IfErr result (λ e. e ≡ reader_fault self.old MismatchKind.MissingValue) }
@@ -151,7 +151,7 @@ impl<'n, 'i> NodeReader<'n, 'i> {
     #[inline(always)]
     pub(crate) fn pass(&mut self)
         requires { self.old.at < self.old.end }
-        ensures place { place self.new ≡ record (place self.old) {
+        ensures place { spot self.new ≡ record (spot self.old) {
           at = self.old.at + 1;
           at_key = false;
         } }
@@ -164,11 +164,11 @@ impl<'n, 'i> NodeReader<'n, 'i> {
     }
 
     #[inline(always)]
-    pub(crate) fn take_string(&mut self) -> Result<&'i str, Fault>
-        ensures taken { IfOk result (λ s. TakesNode (place self.old)
-            (λ _ item. item ≡ string_item s.now) (place self.new)) }
+    pub(crate) fn take_string(&mut self) -> Result<&'i str, StepFault>
+        ensures taken { IfOk result (λ s. TakesNode (spot self.old)
+            (λ _ item. item ≡ string_item s.now) (spot self.new)) }
         ensures exact { option_map (λ s. s.now) (result_ok result)
-            ≡ ahead text (place self.old) }
+            ≡ ahead string_text (spot self.old) }
         ensures place { IfErr result (IsOfNext self.old) }
         ensures fresh { OnOk result (self.new.looked ≡ false) }
         ensures kept { self.new.outer ≡ self.old.outer }
@@ -185,7 +185,7 @@ impl<'n, 'i> NodeReader<'n, 'i> {
     // That the next node is no string, or that there is none.
     #[cold]
     #[inline(never)]
-    fn no_string(&mut self) -> Fault
+    fn no_string(&mut self) -> StepFault
         ensures place { IsOfNext self.old result }
         ensures kept { self.new.outer ≡ self.old.outer }
     {
@@ -197,8 +197,8 @@ impl<'n, 'i> NodeReader<'n, 'i> {
 
     // Enters a container, whose header was taken and says how many nodes are beneath it.
     #[inline(always)]
-    pub(crate) fn enter(&mut self, count: usize) -> Result<(), Fault>
-        ensures entered { OnOk result (place self.new ≡ record (place self.old) {
+    pub(crate) fn enter(&mut self, count: usize) -> Result<(), StepFault>
+        ensures entered { OnOk result (spot self.new ≡ record (spot self.old) {
           end = self.old.at + count;
           outer = self.old.outer.items ++ self.old.end ∷ [];
         }) }
@@ -217,7 +217,7 @@ impl<'n, 'i> NodeReader<'n, 'i> {
 
     // Leaves the innermost container.
     #[inline(always)]
-    pub(crate) fn leave(&mut self) -> Result<(), Fault>
+    pub(crate) fn leave(&mut self) -> Result<(), StepFault>
         ensures left { OnOk result ((self.new.at ≡ self.old.at)
             × (self.old.outer.items ≡ self.new.outer.items ++ self.new.end ∷ [])
             × (self.new.nodes ≡ self.old.nodes) × (self.new.at_key ≡ self.old.at_key)) }
@@ -231,16 +231,5 @@ impl<'n, 'i> NodeReader<'n, 'i> {
             }
             None => Err(self.fault(MismatchKind::MissingValue)),
         }
-    }
-}
-
-// How many nodes are beneath the node.
-#[inline(always)]
-pub(crate) fn beneath(node: &Node<'_>) -> usize
-    ensures { result ≡ nodes_beneath (item_of node.now) }
-{
-    match node {
-        Node::Array { count, .. } | Node::Object { count, .. } => *count,
-        _ => 0,
     }
 }

@@ -1,10 +1,10 @@
 //! The nodes of a document: those of a tape, or those that a parse in place left.
 ghost use Rattle.std.specs.Prelude.{◌≡◌, length, slice_get, option_and_then, option_map};
 ghost use Rattle.simd_json_parts.specs.Nodes.{item_of};
-ghost use Rattle.simd_json_serde.specs.Ahead.{literal, natural, text};
+ghost use Rattle.simd_json_serde.specs.Ahead.{decimal_text, natural, string_text};
 ghost use Rattle.simd_json_serde.specs.Nodes.{items_of, start_of};
 
-use crate::in_place::InPlace;
+use crate::in_place::PlacedNodes;
 use simd_json::{Node, StaticNode};
 
 /// Where nodes are read from.
@@ -13,7 +13,7 @@ pub(crate) enum Nodes<'n, 'i> {
     // of a tape
     Listed(&'n [Node<'i>]),
     // of a parse in place
-    Placed(InPlace<'n, 'i>),
+    Placed(PlacedNodes<'n, 'i>),
 }
 
 impl<'n, 'i> Nodes<'n, 'i> {
@@ -44,7 +44,7 @@ impl<'n, 'i> Nodes<'n, 'i> {
     #[inline(always)]
     pub(crate) fn string(&self, at: usize) -> Option<&'i str>
         ensures { option_map (λ s. s.now) result
-            ≡ option_and_then text (slice_get (items_of self.now) at) }
+            ≡ option_and_then string_text (slice_get (items_of self.now) at) }
     {
         match self {
             Nodes::Listed(nodes) => match nodes.get(at) {
@@ -73,7 +73,7 @@ impl<'n, 'i> Nodes<'n, 'i> {
     #[inline(always)]
     pub(crate) fn literal(&self, at: usize) -> Option<&'i str>
         ensures { option_map (λ s. s.now) result
-            ≡ option_and_then literal (slice_get (items_of self.now) at) }
+            ≡ option_and_then decimal_text (slice_get (items_of self.now) at) }
     {
         match self {
             Nodes::Listed(nodes) => match nodes.get(at) {

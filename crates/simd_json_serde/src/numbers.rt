@@ -6,10 +6,10 @@ ghost use Rattle.std.specs.Float.{binary32, binary64};
 ghost use Rattle.serde.specs.Event.{double, unsigned as unsigned_event};
 ghost use Rattle.simd_json_serde.specs.Ahead.{ahead, float, nearest, unsigned};
 ghost use Rattle.simd_json_serde.specs.Faults.{IsOfNext, reader_fault};
-ghost use Rattle.simd_json_serde.specs.Places.{place};
+ghost use Rattle.simd_json_serde.specs.Places.{spot};
 ghost use Rattle.simd_json_serde.specs.Steps.{IsNearest, ReadsAs};
 
-use crate::error::{Fault, MismatchKind};
+use crate::error::{MismatchKind, StepFault};
 use crate::node_reader::NodeReader;
 use simd_json::{Node, StaticNode, ValueType};
 use std::num::{nearest_i64_to_f64, nearest_u64_to_f64};
@@ -17,7 +17,7 @@ use std::num::{nearest_i64_to_f64, nearest_u64_to_f64};
 impl<'n, 'i> NodeReader<'n, 'i> {
     // An integer, if it fits the type that is read.
     #[inline(always)]
-    pub(crate) fn fitting<T>(&self, number: Option<T>) -> Result<T, Fault>
+    pub(crate) fn fitting<T>(&self, number: Option<T>) -> Result<T, StepFault>
         ensures exact { result_ok result ≡ number }
         ensures fault { IfErr result (λ e. e ≡ reader_fault self.now MismatchKind.InvalidValue) }
     {
@@ -30,11 +30,11 @@ impl<'n, 'i> NodeReader<'n, 'i> {
     // As `u64`, of any node. Most integers are without a sign and of 64 bits, so it is out of line.
     #[cold]
     #[inline(never)]
-    pub(crate) fn other_u64(&mut self) -> Result<u64, Fault>
+    pub(crate) fn other_u64(&mut self) -> Result<u64, StepFault>
         ensures given { IfOk result
-            (λ v. ReadsAs (place self.old) (unsigned_event v) (place self.new)) }
+            (λ v. ReadsAs (spot self.old) (unsigned_event v) (spot self.new)) }
         ensures exact { self.old.at_key ≡ false
-            → result_ok result ≡ ahead (unsigned 64) (place self.old) }
+            → result_ok result ≡ ahead (unsigned 64) (spot self.old) }
         ensures place { IfErr result (IsOfNext self.old) }
     {
         let at_key = self.at_key;
@@ -54,9 +54,9 @@ impl<'n, 'i> NodeReader<'n, 'i> {
     // As `f64`, of any node. Most floats are decimals, so it is out of line.
     #[cold]
     #[inline(never)]
-    pub(crate) fn other_f64(&mut self) -> Result<f64, Fault>
-        ensures given { IfOk result (λ v. ReadsAs (place self.old) (double v) (place self.new)) }
-        ensures exact { result_ok result ≡ ahead (float binary64) (place self.old) }
+    pub(crate) fn other_f64(&mut self) -> Result<f64, StepFault>
+        ensures given { IfOk result (λ v. ReadsAs (spot self.old) (double v) (spot self.new)) }
+        ensures exact { result_ok result ≡ ahead (float binary64) (spot self.old) }
         ensures place { IfErr result (IsOfNext self.old) }
     {
         match self.take()? {
@@ -76,7 +76,7 @@ impl<'n, 'i> NodeReader<'n, 'i> {
     }
 
     // The float nearest to a literal, if it is finite.
-    pub(crate) fn nearest_f32(&self, literal: &str) -> Result<f32, Fault>
+    pub(crate) fn nearest_f32(&self, literal: &str) -> Result<f32, StepFault>
         ensures near { IfOk result (λ x. IsNearest binary32 x literal.now) }
         ensures exact { result_ok result ≡ nearest binary32 literal.now }
         ensures fault { IfErr result (λ e. e ≡ reader_fault self.now MismatchKind.InvalidValue) }
@@ -88,7 +88,7 @@ impl<'n, 'i> NodeReader<'n, 'i> {
     }
 
     #[inline(always)]
-    pub(crate) fn nearest_f64(&self, literal: &str) -> Result<f64, Fault>
+    pub(crate) fn nearest_f64(&self, literal: &str) -> Result<f64, StepFault>
         ensures near { IfOk result (λ x. IsNearest binary64 x literal.now) }
         ensures exact { result_ok result ≡ nearest binary64 literal.now }
         ensures fault { IfErr result (λ e. e ≡ reader_fault self.now MismatchKind.InvalidValue) }

@@ -5,14 +5,13 @@ ghost use Rattle.std.specs.Prelude.{slice_get, string_bytes};
 ghost use Rattle.simd_json_parts.specs.Document.{Document, Elements, Members};
 ghost use Rattle.simd_json_parts.specs.Listing.{elements_listing, listing, members_listing};
 ghost use Rattle.simd_json_parts.specs.Nodes.{item_of};
-ghost use Rattle.simd_json_serde.specs.Ahead.{array_count, text};
+ghost use Rattle.simd_json_serde.specs.Ahead.{array_count, string_text};
 ghost use Rattle.simd_json_serde.specs.Nodes.{items_of};
 ghost use Rattle.simd_json_serde.specs.Paths.{BeginAt, IsStep, elements_way};
-ghost use Rattle.simd_json_serde.specs.Paths.{escaped_character, index_token, key_token};
+ghost use Rattle.simd_json_serde.specs.Paths.{token_character, index_token, key_token};
 ghost use Rattle.simd_json_serde.specs.Paths.{members_way, way};
 
-use crate::error::Fault;
-use crate::node_reader::beneath;
+use crate::error::StepFault;
 use crate::nodes::Nodes;
 use simd_json::Node;
 use std::alloc::AllocError;
@@ -20,7 +19,7 @@ use std::alloc::AllocError;
 // Appends the pointer to the node of a fault.
 pub(crate) fn append_path(
     nodes: Nodes<'_, '_>,
-    fault: &Fault,
+    fault: &StepFault,
     path: &mut String,
 ) -> Result<(), AllocError>
     ensures { OnOk result ((d : Document) → items_of nodes.entry ≡ listing d → string_bytes path.new
@@ -133,7 +132,7 @@ fn member_around<'i>(
 
 fn string_at<'i>(nodes: Nodes<'_, 'i>, at: usize) -> Option<&'i str>
     ensures { option_map (λ s. s.now) result
-        ≡ option_and_then text (slice_get (items_of nodes.entry) at) }
+        ≡ option_and_then string_text (slice_get (items_of nodes.entry) at) }
 {
     match nodes.get(at) {
         Some(Node::String(text)) => Some(text),
@@ -151,11 +150,11 @@ fn after(nodes: Nodes<'_, '_>, at: usize) -> usize
     let Some(node) = nodes.get(at) else {
         return at.saturating_add(1);
     };
-    let beneath = beneath(&node);
-    if beneath >= nodes.len().saturating_sub(at) {
+    let count = node.count();
+    if count >= nodes.len().saturating_sub(at) {
         return at.saturating_add(1);
     }
-    at + 1 + beneath
+    at + 1 + count
 }
 
 fn append_index(path: &mut String, index: usize) -> Result<(), AllocError>
@@ -181,7 +180,7 @@ fn append_key(path: &mut String, key: &str) -> Result<(), AllocError>
 // With `~0` for `~`, and `~1` for `/`.
 fn append_escaped(path: &mut String, c: char) -> Result<(), AllocError>
     ensures { OnOk result (string_bytes path.new
-        ≡ string_bytes path.old ++ escaped_character c) }
+        ≡ string_bytes path.old ++ token_character c) }
 {
     match c {
         '~' => path.push_str("~0"),

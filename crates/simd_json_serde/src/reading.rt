@@ -5,17 +5,17 @@ ghost use Rattle.std.specs.Result.{result_ok};
 ghost use Rattle.serde.specs.Event.{octets};
 ghost use Rattle.serde.specs.Steps.{Gives};
 ghost use Rattle.simd_json_stages.specs.Capacities.{default_max_depth};
-ghost use Rattle.simd_json.specs.Capacities.{KeepsCapacities, capacity as buffer_capacity};
+ghost use Rattle.simd_json.specs.Capacities.{KeepsCapacities, capacity};
 ghost use Rattle.simd_json.specs.Viewed.{doc};
 ghost use Rattle.simd_json_parts.specs.Document.{Document};
 ghost use Rattle.simd_json_parts.specs.Listing.{listing};
-ghost use Rattle.simd_json_serde.specs.Kept.{capacity, node_capacity};
+ghost use Rattle.simd_json_serde.specs.Scratch.{input_capacity, node_capacity};
 ghost use Rattle.simd_json_serde.specs.Nodes.{items_of};
-ghost use Rattle.simd_json_serde.specs.Outcomes.{IsTypedRead, IsLate, IsOf, IsNoMemory};
+ghost use Rattle.simd_json_serde.specs.Outcomes.{IsTypedRead, IsLate, IsNoMemory};
 ghost use Rattle.simd_json_serde.specs.Outcomes.{HasErrorPath, HasParseMemory, HasPathIn};
 
-use crate::error::{Error, Fault, FaultName, Mismatch};
-use crate::in_place::{InPlace, parse_in_place};
+use crate::error::{FaultName, Mismatch, ReadError, StepFault};
+use crate::in_place::{PlacedNodes, parse_in_place};
 use crate::kept_node::KeptNode;
 use crate::node_reader::NodeReader;
 use crate::nodes::Nodes;
@@ -30,23 +30,30 @@ use std::alloc::{AllocError, Global};
 /// Returns the parse's error where the input is not a document within the limits of
 /// [`to_tape`](simd_json::to_tape), or an allocation of the parse fails, and a [`Mismatch`] where
 /// it does not fit the type, or an allocation fails after the parse.
-pub fn from_slice<'de, T: Deserialize<'de>>(alloc: Global, input: &'de mut [u8]) -> Result<T, Error>
+pub fn from_slice_mut<'de, T: Deserialize<'de>>(
+    alloc: Global,
+    input: &'de mut [u8],
+) -> Result<T, ReadError>
     ensures read { IsTypedRead input.old default_max_depth result }
     ensures path { IfErr result (HasPathIn input.old) }
 {
     let mut buffers = Buffers::empty(alloc, DEFAULT_MAX_DEPTH);
-    read(input, &mut buffers, &mut Kept::new(alloc))
+    from_slice_mut_with(input, &mut buffers, &mut Scratch::new(alloc))
 }
 
-/// Reads a type that borrows nothing. Strings are copied only into the type.
+/// Reads a type that borrows nothing. Strings are copied only into the type. The input's bytes are
+/// not kept.
 ///
-/// Returns errors as [`from_slice`] does.
-pub fn from_slice_owned<T: DeserializeOwned>(alloc: Global, input: &mut [u8]) -> Result<T, Error>
+/// Returns errors as [`from_slice_mut`] does.
+pub fn from_slice_mut_owned<T: DeserializeOwned>(
+    alloc: Global,
+    input: &mut [u8],
+) -> Result<T, ReadError>
     ensures read { IsTypedRead input.old default_max_depth result }
     ensures path { IfErr result (HasPathIn input.old) }
 {
     let mut buffers = Buffers::empty(alloc, DEFAULT_MAX_DEPTH);
-    read_owned(input, &mut buffers, &mut Kept::new(alloc))
+    from_slice_mut_owned_with(input, &mut buffers, &mut Scratch::new(alloc))
 }
 
 /// Reads a field of type `&str`, in less time than `serde` where much of it is not ASCII: it tests
@@ -63,8 +70,8 @@ pub fn from_slice_owned<T: DeserializeOwned>(alloc: Global, input: &mut [u8]) ->
 /// }
 /// ```
 ///
-/// Returns an error where the value is no string, or can't be borrowed: by [`from_slice`] and
-/// [`read`] each string can be, from a tape none.
+/// Returns an error where the value is no string, or can't be borrowed: by [`from_slice_mut`] and
+/// [`from_slice_mut_with`] each string can be, from a tape none.
 pub fn borrowed_str<'de, F: Format>(
     _alloc: Global,
     from: &mut Deserializer<'de, '_, F>,
@@ -81,13 +88,15 @@ pub fn borrowed_str<'de, F: Format>(
 ///
 /// Returns a [`Mismatch`] where it does not fit the type, the tape is empty, or an allocation
 /// fails.
-pub fn from_tape<T: DeserializeOwned>(alloc: Global, tape: &Tape<'_, Global>) -> Result<T, Error>
+pub fn from_tape<T: DeserializeOwned>(
+    alloc: Global,
+    tape: &Tape<'_, Global>,
+) -> Result<T, ReadError>
     ensures late { IsLate result }
     ensures path { (d : Document) → tape.now.nodes ≡ listing d
         → IfErr result (HasErrorPath d) }
 {
-    let mut reader = NodeReader::new(tape.nodes(), Vec::new(alloc));
-    read_one_owned(alloc, &mut reader)
+    from_nodes(alloc, Nodes::Listed(tape.nodes()), &mut Vec::new(alloc))
 }
 
 /// Reads a type that borrows nothing from a value of a tape, as one that
@@ -95,30 +104,48 @@ pub fn from_tape<T: DeserializeOwned>(alloc: Global, tape: &Tape<'_, Global>) ->
 ///
 /// Returns a [`Mismatch`] where it does not fit the type, with its path from this value on, or an
 /// allocation fails.
-pub fn from_value<T: DeserializeOwned>(alloc: Global, value: &Value<'_, '_>) -> Result<T, Error>
+pub fn from_value<T: DeserializeOwned>(alloc: Global, value: &Value<'_, '_>) -> Result<T, ReadError>
     ensures late { IsLate result }
     ensures path { IfErr result (HasErrorPath (doc value.now)) }
 {
-    let mut reader = NodeReader::new(value.nodes(), Vec::new(alloc));
-    read_one_owned(alloc, &mut reader)
+    from_nodes(alloc, Nodes::Listed(value.nodes()), &mut Vec::new(alloc))
 }
 
-/// The memory that [`read`] uses beside buffers: for the nodes of a document and for the containers
-/// that are open. It grows as needed, and gives up no capacity; [`reserve`](Kept::reserve) makes it
-/// large enough at once.
+fn from_nodes<T: DeserializeOwned>(
+    alloc: Global,
+    nodes: Nodes<'_, '_>,
+    outer: &mut Vec<usize>,
+) -> Result<T, ReadError>
+    ensures late { IsLate result }
+    ensures path { (d : Document) → items_of nodes.entry ≡ listing d
+        → IfErr result (HasErrorPath d) }
+    ensures kept { (vec_capacity outer.old ≤ vec_capacity outer.new)
+        ⊎ IfErr result IsNoMemory }
+{
+    let room = outer.capacity();
+    let mut reader = NodeReader::of(nodes, std::mem::replace(outer, Vec::new(alloc)));
+    let read = T::deserialize_owned(alloc, &mut Deserializer::new(&[], &mut reader));
+    let name = reader.last_name();
+    *outer = reader.into_outer();
+    finish(alloc, located(alloc, read, nodes, name), outer, room)
+}
+
+/// The memory that [`from_slice_mut_with`] uses beside buffers: for the nodes of a document and for
+/// the containers that are open. It grows as needed, and gives up no capacity;
+/// [`reserve`](Scratch::reserve) makes it large enough at once.
 #[derive(Drop)]
-pub struct Kept {
+pub struct Scratch {
     pub(crate) alloc: Global,
     pub(crate) nodes: Vec<KeptNode>,
     pub(crate) outer: Vec<usize>,
 }
 
-impl Kept {
+impl Scratch {
     /// Without capacity. Allocates nothing.
-    pub fn new(alloc: Global) -> Kept
-        ensures { capacity result ≡ 0 }
+    pub fn new(alloc: Global) -> Scratch
+        ensures { input_capacity result ≡ 0 }
     {
-        Kept {
+        Scratch {
             alloc,
             nodes: Vec::new(alloc),
             outer: Vec::new(alloc),
@@ -131,10 +158,10 @@ impl Kept {
     ///
     /// Returns an error if an allocation fails; what has been reserved by then stays.
     pub fn reserve(&mut self, input_len: usize) -> Result<(), AllocError>
-        ensures enough { OnOk result (input_len ≤ capacity self.new) }
-        ensures kept { capacity self.old ≤ capacity self.new }
+        ensures enough { OnOk result (input_len ≤ input_capacity self.new) }
+        ensures kept { input_capacity self.old ≤ input_capacity self.new }
         ensures nodes { node_capacity self.old ≤ node_capacity self.new }
-        ensures fault { OnErr result (capacity self.old < input_len) }
+        ensures fault { OnErr result (input_capacity self.old < input_len) }
     {
         self.nodes.clear();
         self.nodes.reserve(input_len)?;
@@ -143,72 +170,78 @@ impl Kept {
     }
 }
 
-/// Reads a type into kept memory. It may borrow its strings from `input`, as with [`from_slice`].
+/// Reads a type into kept memory. It may borrow its strings from `input`, as with
+/// [`from_slice_mut`].
 ///
-/// Returns errors as [`from_slice`] does, with the depth limit of the buffers. After a reservation
-/// for inputs as long, with [`Buffers::reserve`] and [`Kept::reserve`], it allocates what the type
-/// does, and nothing else: what it owns, a list for an array `[T; N]`, and for a recursive type a
-/// box for each of 256 levels.
-pub fn read<'de, T: Deserialize<'de>>(
+/// Returns errors as [`from_slice_mut`] does, with the depth limit of the buffers. After a
+/// reservation for inputs as long, with [`Buffers::reserve`] and [`Scratch::reserve`], it allocates
+/// what the type does, and nothing else: what it owns, a list for an array `[T; N]`, and for a
+/// recursive type a box for each of 256 levels.
+pub fn from_slice_mut_with<'de, T: Deserialize<'de>>(
     input: &'de mut [u8],
     buffers: &mut Buffers<Global>,
-    kept: &mut Kept,
-) -> Result<T, Error>
+    scratch: &mut Scratch,
+) -> Result<T, ReadError>
     ensures read { IsTypedRead input.old buffers.old.limit result }
     ensures path { IfErr result (HasPathIn input.old) }
-    ensures kept { (capacity kept.old ≤ capacity kept.new) ⊎ IfErr result IsNoMemory }
-    ensures nodes { node_capacity kept.old ≤ node_capacity kept.new }
+    ensures kept { (input_capacity scratch.old ≤ input_capacity scratch.new)
+        ⊎ IfErr result IsNoMemory }
+    ensures nodes { node_capacity scratch.old ≤ node_capacity scratch.new }
     ensures buffers { (buffers.new.limit ≡ buffers.old.limit)
         × KeepsCapacities buffers.old buffers.new }
-    ensures reserved { length input.old ≤ buffer_capacity buffers.old
-        → length input.old ≤ node_capacity kept.old → HasParseMemory result }
+    ensures reserved { length input.old ≤ capacity buffers.old
+        → length input.old ≤ node_capacity scratch.old → HasParseMemory result }
 {
-    let Kept {
+    let Scratch {
         alloc,
         nodes,
         outer,
-    } = kept;
+    } = scratch;
     let alloc = *alloc;
     if let Err(e) = parse_in_place(input, buffers, nodes) {
-        return Err(Error::Parse(e));
+        return Err(ReadError::Parse(e));
     }
     let text: &'de [u8] = input;
-    read_nodes(alloc, text, Nodes::Placed(InPlace::new(nodes, text)), outer)
+    let nodes = Nodes::Placed(PlacedNodes::new(nodes, text));
+    from_nodes_in(alloc, text, nodes, outer)
 }
 
-/// Reads a type that borrows nothing, as [`read`] does. Strings are copied only into the type.
-pub fn read_owned<T: DeserializeOwned>(
+/// Reads a type that borrows nothing, as [`from_slice_mut_with`] does. Strings are copied only into
+/// the type.
+pub fn from_slice_mut_owned_with<T: DeserializeOwned>(
     input: &mut [u8],
     buffers: &mut Buffers<Global>,
-    kept: &mut Kept,
-) -> Result<T, Error>
+    scratch: &mut Scratch,
+) -> Result<T, ReadError>
     ensures read { IsTypedRead input.old buffers.old.limit result }
     ensures path { IfErr result (HasPathIn input.old) }
-    ensures kept { (capacity kept.old ≤ capacity kept.new) ⊎ IfErr result IsNoMemory }
-    ensures nodes { node_capacity kept.old ≤ node_capacity kept.new }
+    ensures kept { (input_capacity scratch.old ≤ input_capacity scratch.new)
+        ⊎ IfErr result IsNoMemory }
+    ensures nodes { node_capacity scratch.old ≤ node_capacity scratch.new }
     ensures buffers { (buffers.new.limit ≡ buffers.old.limit)
         × KeepsCapacities buffers.old buffers.new }
-    ensures reserved { length input.old ≤ buffer_capacity buffers.old
-        → length input.old ≤ node_capacity kept.old → HasParseMemory result }
+    ensures reserved { length input.old ≤ capacity buffers.old
+        → length input.old ≤ node_capacity scratch.old → HasParseMemory result }
 {
-    let Kept {
+    let Scratch {
         alloc,
         nodes,
         outer,
-    } = kept;
+    } = scratch;
     let alloc = *alloc;
     if let Err(e) = parse_in_place(input, buffers, nodes) {
-        return Err(Error::Parse(e));
+        return Err(ReadError::Parse(e));
     }
-    read_nodes_owned(alloc, Nodes::Placed(InPlace::new(nodes, input)), outer)
+    from_nodes(alloc, Nodes::Placed(PlacedNodes::new(nodes, input)), outer)
 }
 
-fn read_nodes<'de, T: Deserialize<'de>>(
+// Reads a type that may borrow its strings from the input in which those of the nodes lie.
+fn from_nodes_in<'de, T: Deserialize<'de>>(
     alloc: Global,
     input: &'de [u8],
     nodes: Nodes<'_, '_>,
     outer: &mut Vec<usize>,
-) -> Result<T, Error>
+) -> Result<T, ReadError>
     ensures late { IsLate result }
     ensures path { (d : Document) → items_of nodes.entry ≡ listing d
         → IfErr result (HasErrorPath d) }
@@ -216,92 +249,49 @@ fn read_nodes<'de, T: Deserialize<'de>>(
         ⊎ IfErr result IsNoMemory }
 {
     let room = outer.capacity();
-    let kept = std::mem::replace(outer, Vec::new(alloc));
-    let mut reader = NodeReader::of(nodes, kept);
-    let read = read_one(alloc, input, &mut reader);
+    let mut reader = NodeReader::of(nodes, std::mem::replace(outer, Vec::new(alloc)));
+    let read = T::deserialize(alloc, &mut Deserializer::new(input, &mut reader));
+    let name = reader.last_name();
     *outer = reader.into_outer();
-    match has_room(outer, room) {
-        Ok(()) => read,
-        Err(_) => Err(Error::no_memory(alloc)),
-    }
+    finish(alloc, located(alloc, read, nodes, name), outer, room)
 }
 
-fn read_nodes_owned<T: DeserializeOwned>(
+// The read, if the list has its capacity. A reader gives up none; but a type's own code had it, of
+// which nothing is known.
+fn finish<T: Drop>(
     alloc: Global,
-    nodes: Nodes<'_, '_>,
+    read: Result<T, ReadError>,
     outer: &mut Vec<usize>,
-) -> Result<T, Error>
-    ensures late { IsLate result }
-    ensures path { (d : Document) → items_of nodes.entry ≡ listing d
-        → IfErr result (HasErrorPath d) }
-    ensures kept { (vec_capacity outer.old ≤ vec_capacity outer.new)
-        ⊎ IfErr result IsNoMemory }
-{
-    let room = outer.capacity();
-    let kept = std::mem::replace(outer, Vec::new(alloc));
-    let mut reader = NodeReader::of(nodes, kept);
-    let read = read_one_owned(alloc, &mut reader);
-    *outer = reader.into_outer();
-    match has_room(outer, room) {
-        Ok(()) => read,
-        Err(_) => Err(Error::no_memory(alloc)),
-    }
-}
-
-// A reader gives up no capacity; but a type's own code had it, of which nothing is known.
-fn has_room(outer: &mut Vec<usize>, room: usize) -> Result<(), AllocError>
-    ensures { OnOk result (room ≤ vec_capacity outer.new) }
+    room: usize,
+) -> Result<T, ReadError>
+    ensures late { IsLate read → IsLate result }
+    ensures path { (d : Document) → IfErr read (HasErrorPath d) → IfErr result (HasErrorPath d) }
+    ensures kept { (room ≤ vec_capacity outer.new) ⊎ IfErr result IsNoMemory }
 {
     if outer.capacity() < room {
         outer.clear();
-        outer.reserve(room)?;
+        if outer.reserve(room).is_err() {
+            return Err(ReadError::no_memory(alloc));
+        }
     }
-    Ok(())
-}
-
-fn read_one<'de, T: Deserialize<'de>>(
-    alloc: Global,
-    input: &'de [u8],
-    reader: &mut NodeReader<'_, '_>,
-) -> Result<T, Error>
-    ensures late { IsLate result }
-    ensures path { (d : Document) → items_of reader.old.nodes ≡ listing d
-        → IfErr result (HasErrorPath d) }
-{
-    let nodes = reader.nodes;
-    let read = T::deserialize(alloc, &mut Deserializer::new(input, reader));
-    located(alloc, read, nodes, reader.last_name())
-}
-
-fn read_one_owned<T: DeserializeOwned>(
-    alloc: Global,
-    reader: &mut NodeReader<'_, '_>,
-) -> Result<T, Error>
-    ensures late { IsLate result }
-    ensures path { (d : Document) → items_of reader.old.nodes ≡ listing d
-        → IfErr result (HasErrorPath d) }
-{
-    let nodes = reader.nodes;
-    let read = T::deserialize_owned(alloc, &mut Deserializer::new(&[], reader));
-    located(alloc, read, nodes, reader.last_name())
+    read
 }
 
 // The read, with the path of a value that does not fit.
 #[inline]
-pub(crate) fn located<T>(
+fn located<T>(
     alloc: Global,
-    read: Result<T, Fault>,
+    read: Result<T, StepFault>,
     nodes: Nodes<'_, '_>,
     name: FaultName,
-) -> Result<T, Error>
+) -> Result<T, ReadError>
     ensures late { IsLate result }
     ensures path { (d : Document) → items_of nodes.entry ≡ listing d
         → IfErr result (HasErrorPath d) }
     ensures same { result_ok result ≡ result_ok read }
-    ensures kind { IfErr read (λ fault. IfErr result (IsOf fault.kind)) }
 {
     match read {
         Ok(value) => Ok(value),
-        Err(fault) => Err(Error::Mismatch(Mismatch::new(alloc, fault, name, nodes))),
+        Err(fault) => Err(ReadError::Mismatch(Mismatch::new(alloc, fault, name, nodes))),
     }
 }

@@ -1,37 +1,28 @@
 //! Why no text was made.
-use std::alloc::AllocError;
-use std::fmt::InlineText;
 use std::{fmt, io};
-
-// How many bytes of a message are kept.
-const MESSAGE_LEN: usize = 32;
 
 /// Why no text was made or written.
 #[derive(Drop)]
 pub enum WriteError {
-    /// A float is infinite or not a number, which no JSON text is.
-    NotFinite,
-    /// A key is neither a string nor a number nor a truth value.
-    KeyKind,
-    /// A flattened value is no object, or a `Serialize` that was written by hand has its steps in
-    /// another order than that of a JSON text.
-    Misplaced,
-    /// A message of the type's own: at most 32 bytes, and `...` at the end of one that is cut.
-    Custom(InlineText<MESSAGE_LEN>),
-    /// An allocation failed.
-    OutOfMemory,
+    /// A key is neither a string nor a number nor a truth value, a flattened value is no object, an
+    /// allocation failed, or it is the type's own error.
+    Value(serde_json::Error),
+    /// The text is not a document, since a `Serialize` that was written by hand has its steps in
+    /// another order than that of a JSON text; it has more than 2^32 - 1 bytes; or an allocation of
+    /// its check failed.
+    Text(simd_json::Error),
     /// The writer's error, or one of kind `WriteZero` if it takes 0 bytes of a non-empty buffer.
     Io(io::Error),
 }
 
-impl From<AllocError> for WriteError {
+impl From<serde_json::Error> for WriteError {
     ghost use Rattle.std.specs.Prelude.{◌≡◌};
     ghost use Rattle.simd_json_serde.specs.declared.write_error.WriteError.TheVariants as error;
 
-    ghost from_gives = { λ _ e. e ≡ error.OutOfMemory };
+    ghost from_gives = { λ e made. made ≡ error.Value e };
 
-    fn from(_error: AllocError) -> WriteError {
-        WriteError::OutOfMemory
+    fn from(error: serde_json::Error) -> WriteError {
+        WriteError::Value(error)
     }
 }
 
@@ -42,11 +33,8 @@ impl fmt::Display for WriteError {
 
     fn fmt<W: fmt::Write>(&self, f: &mut fmt::Formatter<W>) -> fmt::Result {
         match self {
-            WriteError::NotFinite => f.write_str("a float is not finite"),
-            WriteError::KeyKind => f.write_str("a key is no string"),
-            WriteError::Misplaced => f.write_str("a value is out of place"),
-            WriteError::Custom(message) => f.write_str(message.as_str()),
-            WriteError::OutOfMemory => f.write_str("out of memory"),
+            WriteError::Value(e) => write!(f, "{e}"),
+            WriteError::Text(e) => write!(f, "{e}"),
             WriteError::Io(e) => write!(f, "{e}"),
         }
     }

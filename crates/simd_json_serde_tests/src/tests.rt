@@ -1,5 +1,5 @@
 use serde::DeserializeOwned;
-use simd_json_serde::{Error, from_slice_owned};
+use simd_json_serde::{ReadError, from_slice_mut_owned};
 use std::alloc::Global;
 use std::fs;
 use std::process::Abort;
@@ -31,6 +31,6 @@ fn read_owned_from<T: DeserializeOwned>(
     rt: &impl Abort,
     alloc: Global,
     text: &str,
-) -> Result<T, Error> {
-    from_slice_owned(alloc, &mut bytes_of(rt, alloc, text))
+) -> Result<T, ReadError> {
+    from_slice_mut_owned(alloc, &mut bytes_of(rt, alloc, text))
 }

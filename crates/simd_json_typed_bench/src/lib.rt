@@ -22,13 +22,13 @@ mod tests;
 use forms::{Borrowed, Line, Map, Sum, Timeline};
 use serde::{Deserialize, DeserializeOwned};
 use simd_json::Buffers;
-use simd_json_serde::{Error, Kept};
+use simd_json_serde::{ReadError, Scratch};
 use std::alloc::Global;
 
 // Returned where a text is not read.
 const NONE: u64 = u64::MAX;
 
-/// By `read_owned`, into types that own their strings.
+/// By `from_slice_mut_owned_with`, into types that own their strings.
 #[unsafe(no_mangle)]
 pub extern "C" fn simd_json_typed_owned(
     alloc: Global,
@@ -45,7 +45,7 @@ pub extern "C" fn simd_json_typed_owned(
     sum.unwrap_or(NONE)
 }
 
-/// By `read`, into types that borrow them, by `borrowed_str`.
+/// By `from_slice_mut_with`, into types that borrow them, by `borrowed_str`.
 #[unsafe(no_mangle)]
 pub extern "C" fn simd_json_typed_borrowed(
     alloc: Global,
@@ -98,11 +98,11 @@ fn owned<T: DeserializeOwned + Sum>(
     len: usize,
 ) -> Option<u64> {
     let mut buffers = Buffers::new(alloc, len).ok()?;
-    let mut kept = Kept::new(alloc);
+    let mut scratch = Scratch::new(alloc);
     let mut sum = 0u64;
     for slot in texts.chunks_exact_mut(stride.max(1)) {
         let text = slot.get_mut(..len)?;
-        let read = simd_json_serde::read_owned::<T>(text, &mut buffers, &mut kept);
+        let read = simd_json_serde::from_slice_mut_owned_with::<T>(text, &mut buffers, &mut scratch);
         sum = sum.wrapping_add(read.ok()?.sum());
     }
     Some(sum)
@@ -110,11 +110,11 @@ fn owned<T: DeserializeOwned + Sum>(
 
 fn borrowed(alloc: Global, texts: &mut [u8], stride: usize, len: usize, form: u32) -> Option<u64> {
     let mut buffers = Buffers::new(alloc, len).ok()?;
-    let mut kept = Kept::new(alloc);
+    let mut scratch = Scratch::new(alloc);
     let mut sum = 0u64;
     for slot in texts.chunks_exact_mut(stride.max(1)) {
         let text = slot.get_mut(..len)?;
-        sum = sum.wrapping_add(borrowed_one(form, text, &mut buffers, &mut kept)?);
+        sum = sum.wrapping_add(borrowed_one(form, text, &mut buffers, &mut scratch)?);
     }
     Some(sum)
 }
@@ -124,16 +124,16 @@ fn borrowed_one(
     form: u32,
     text: &mut [u8],
     buffers: &mut Buffers<Global>,
-    kept: &mut Kept,
+    scratch: &mut Scratch,
 ) -> Option<u64> {
     match form {
-        0 => summed(simd_json_serde::read::<Line<Borrowed<'_>>>(text, buffers, kept)),
-        1 => summed(simd_json_serde::read::<Timeline<Borrowed<'_>>>(text, buffers, kept)),
-        _ => summed(simd_json_serde::read::<Map>(text, buffers, kept)),
+        0 => summed(simd_json_serde::from_slice_mut_with::<Line<Borrowed<'_>>>(text, buffers, scratch)),
+        1 => summed(simd_json_serde::from_slice_mut_with::<Timeline<Borrowed<'_>>>(text, buffers, scratch)),
+        _ => summed(simd_json_serde::from_slice_mut_with::<Map>(text, buffers, scratch)),
     }
 }
 
-fn summed<T: Sum>(read: Result<T, Error>) -> Option<u64> {
+fn summed<T: Sum>(read: Result<T, ReadError>) -> Option<u64> {
     Some(read.ok()?.sum())
 }
 

@@ -7,7 +7,7 @@
 use anyhow::Result;
 use serde::Deserialize;
 use simd_json::Buffers;
-use simd_json_serde::{Kept, read};
+use simd_json_serde::{Scratch, from_slice_mut_with};
 use std::io;
 use std::io::{BufRead, BufReader, BufWriter, Read, Write};
 
@@ -34,9 +34,9 @@ fn main(rt: HostRuntime) -> Result<()> {
 fn report(rt: &HostRuntime, log: &mut impl BufRead, output: &mut impl Write) -> Result<()> {
     let mut line = Vec::with_capacity(rt.alloc(), LONGEST)?;
     let mut buffers = Buffers::new(rt.alloc(), 0)?;
-    let mut kept = Kept::new(rt.alloc());
+    let mut scratch = Scratch::new(rt.alloc());
     buffers.reserve(LONGEST)?;
-    kept.reserve(LONGEST)?;
+    scratch.reserve(LONGEST)?;
     for number in 1..u64::MAX {
         let len = next_line(log, &mut line)?;
         if len == 0 {
@@ -49,7 +49,7 @@ fn report(rt: &HostRuntime, log: &mut impl BufRead, output: &mut impl Write) -> 
         if line.trim_ascii().is_empty() {
             continue;
         }
-        match read::<Request<'_>>(&mut line, &mut buffers, &mut kept) {
+        match from_slice_mut_with::<Request<'_>>(&mut line, &mut buffers, &mut scratch) {
             Ok(request) => write_failure(output, &request)?,
             Err(error) => {
                 let _ = eprintln!(rt; "line {number}: {error}");

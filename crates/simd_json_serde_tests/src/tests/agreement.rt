@@ -3,7 +3,7 @@ use crate::tests::types::{Command, Either, Folder, Message, Placed, Shape, Tweet
 use crate::tests::{MEMORY, takes_all};
 use serde::{Deserialize, DeserializeOwned};
 use simd_json::Buffers;
-use simd_json_serde::{Kept, read_owned};
+use simd_json_serde::{Scratch, from_slice_mut_owned_with};
 use std::alloc::Global;
 use std::collections::BTreeMap;
 use std::process::Abort;
@@ -35,11 +35,11 @@ fn values_beside<'a, T: DeserializeOwned + Deserialize<'a> + PartialEq>(
     let mut values = 0usize;
     let mut input = Vec::new(alloc);
     let mut buffers = Buffers::new(alloc, 0).expect(rt, MEMORY);
-    let mut kept = Kept::new(alloc);
+    let mut scratch = Scratch::new(alloc);
     for (line, their_line) in lines.lines().zip(their_lines.lines()) {
         input.clear();
         input.extend_from_slice(line.as_bytes()).expect(rt, MEMORY);
-        let ours = read_owned::<T>(&mut input, &mut buffers, &mut kept);
+        let ours = from_slice_mut_owned_with::<T>(&mut input, &mut buffers, &mut scratch);
         let theirs: Result<T, serde_json::Error> = serde_json::from_str(alloc, their_line);
         if ours.is_ok() {
             values = values.saturating_add(1);

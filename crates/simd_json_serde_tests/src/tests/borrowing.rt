@@ -4,8 +4,8 @@ use crate::tests::{MEMORY, bytes_of, read_owned_from};
 use serde::Deserialize;
 use simd_json::{Buffers, Tape, to_tape};
 use simd_json_serde::{
-    Error, Kept, borrowed_str, from_slice, from_slice_owned, from_tape, from_value, read,
-    read_owned,
+    ReadError, Scratch, borrowed_str, from_slice_mut, from_slice_mut_owned, from_tape, from_value, from_slice_mut_with,
+    from_slice_mut_owned_with,
 };
 use std::alloc::Global;
 use std::borrow::CowStr;
@@ -29,10 +29,10 @@ fn strings_with_escapes_are_borrowed(rt: HostRuntime) {
     let theirs = serde_json::from_str::<Line<'_>>(alloc, LINE);
     assert!(rt; theirs.is_err(), "{}", LINE);
     let mut input = bytes_of(&rt, alloc, LINE);
-    let line: Result<Line<'_>, Error> = from_slice(alloc, &mut input);
+    let line: Result<Line<'_>, ReadError> = from_slice_mut(alloc, &mut input);
     assert_line(&rt, &line.ok().expect(&rt, "it is a line"));
     let mut input = bytes_of(&rt, alloc, r#""\u0041b""#);
-    let bytes: Result<&[u8], Error> = from_slice(alloc, &mut input);
+    let bytes: Result<&[u8], ReadError> = from_slice_mut(alloc, &mut input);
     assert_eq!(rt; bytes.ok(), Some(b"Ab".as_slice()));
 }
 
@@ -42,7 +42,7 @@ fn borrowed_strings_are_decoded(rt: HostRuntime) {
     let alloc = rt.alloc();
     let text = r#"{"\u0061b":"","c\"":"\ud83d\ude00x","":"é\n","é\u00e9":"a"}"#;
     let mut input = bytes_of(&rt, alloc, text);
-    let read: Result<BTreeMap<&str, &str>, Error> = from_slice(alloc, &mut input);
+    let read: Result<BTreeMap<&str, &str>, ReadError> = from_slice_mut(alloc, &mut input);
     let map = read.ok().expect(&rt, "it is a map");
     assert_eq!(rt; map.len(), 4);
     for (key, value) in [("ab", ""), ("c\"", "\u{1F600}x"), ("", "é\n"), ("éé", "a")] {
@@ -78,9 +78,9 @@ fn borrowed_mutants_are_as_owned(rt: HostRuntime) {
 // What is borrowed of a text is what a type of its own strings holds, and so is the error.
 fn assert_as_owned(rt: &impl Abort, alloc: Global, text: &[u8]) {
     let mut input = Vec::from_slice(alloc, text).expect(rt, MEMORY);
-    let owned: Result<Vec<(String, String)>, Error> = from_slice_owned(alloc, &mut input);
+    let owned: Result<Vec<(String, String)>, ReadError> = from_slice_mut_owned(alloc, &mut input);
     let mut input = Vec::from_slice(alloc, text).expect(rt, MEMORY);
-    let borrowed: Result<Vec<Pair<'_>>, Error> = from_slice(alloc, &mut input);
+    let borrowed: Result<Vec<Pair<'_>>, ReadError> = from_slice_mut(alloc, &mut input);
     match (borrowed, owned) {
         (Ok(borrowed), Ok(owned)) => {
             assert_eq!(rt; borrowed.len(), owned.len());
@@ -101,19 +101,19 @@ fn assert_as_owned(rt: &impl Abort, alloc: Global, text: &[u8]) {
 fn memory_is_kept(rt: HostRuntime) {
     let alloc = rt.alloc();
     let mut buffers = Buffers::new(alloc, 0).expect(&rt, MEMORY);
-    let mut kept = Kept::new(alloc);
+    let mut scratch = Scratch::new(alloc);
     for _ in 0..3 {
         let mut input = bytes_of(&rt, alloc, LINE);
-        let line: Result<Line<'_>, Error> = read(&mut input, &mut buffers, &mut kept);
+        let line: Result<Line<'_>, ReadError> = from_slice_mut_with(&mut input, &mut buffers, &mut scratch);
         // What is kept serves the next read while the line is still borrowed.
         let mut other = bytes_of(&rt, alloc, "{\"level\":");
-        let none: Result<Line<'_>, Error> = read(&mut other, &mut buffers, &mut kept);
+        let none: Result<Line<'_>, ReadError> = from_slice_mut_with(&mut other, &mut buffers, &mut scratch);
         assert!(rt; none.is_err(), "no document");
         let mut other = bytes_of(&rt, alloc, "[[1],[2,[3]]]");
-        let list: Result<Vec<u8>, Error> = read_owned(&mut other, &mut buffers, &mut kept);
+        let list: Result<Vec<u8>, ReadError> = from_slice_mut_owned_with(&mut other, &mut buffers, &mut scratch);
         assert!(rt; list.is_err(), "no list of numbers");
         let mut other = bytes_of(&rt, alloc, "[1,2,3]");
-        let list: Result<Vec<u8>, Error> = read_owned(&mut other, &mut buffers, &mut kept);
+        let list: Result<Vec<u8>, ReadError> = from_slice_mut_owned_with(&mut other, &mut buffers, &mut scratch);
         let list = list.ok().expect(&rt, "it is a list");
         assert_eq!(rt; list.as_slice(), [1, 2, 3].as_slice());
         assert_line(&rt, &line.ok().expect(&rt, "it is a line"));
@@ -128,14 +128,14 @@ fn values_of_a_tape_are_read(rt: HostRuntime) {
         .ok()
         .expect(&rt, "it is a document");
     let list = tape.as_value().pointer("/a/0/b").expect(&rt, "it is there");
-    let read: Result<(u8, u8), Error> = from_value(alloc, &list);
+    let read: Result<(u8, u8), ReadError> = from_value(alloc, &list);
     assert_eq!(rt; read.ok(), Some((1, 2)));
     let seven = tape.as_value().pointer("/a/1").expect(&rt, "it is there");
-    let read: Result<u64, Error> = from_value(alloc, &seven);
+    let read: Result<u64, ReadError> = from_value(alloc, &seven);
     assert_eq!(rt; read.ok(), Some(7));
-    let read: Result<u64, Error> = from_tape(alloc, &tape);
+    let read: Result<u64, ReadError> = from_tape(alloc, &tape);
     assert!(rt; read.is_err(), "no number");
-    let empty: Result<u64, Error> = from_tape(alloc, &Tape::empty(alloc));
+    let empty: Result<u64, ReadError> = from_tape(alloc, &Tape::empty(alloc));
     assert!(rt; empty.is_err(), "no value");
 }
 
@@ -157,6 +157,6 @@ fn is_read_at_depth(rt: &impl Abort, alloc: Global, depth: usize) -> bool {
     for _ in 0..depth {
         text.push_str("]}").expect(rt, MEMORY);
     }
-    let read: Result<Folder, Error> = read_owned_from(rt, alloc, &text);
+    let read: Result<Folder, ReadError> = read_owned_from(rt, alloc, &text);
     read.is_ok()
 }

@@ -3,7 +3,7 @@ use crate::tests::types::{Command, Either, Folder, Message, Placed, Shape, Tweet
 use crate::tests::{MEMORY, bytes_of, read_owned_from};
 use serde::DeserializeOwned;
 use simd_json::{ErrorType, to_tape};
-use simd_json_serde::{Error, Mismatch, MismatchKind};
+use simd_json_serde::{ReadError, Mismatch, MismatchKind};
 use std::alloc::Global;
 use std::collections::BTreeMap;
 use std::process::Abort;
@@ -25,16 +25,16 @@ fn parse_errors_are_those_of_the_parse(rt: HostRuntime) {
 
 fn parse_error(rt: &impl Abort, alloc: Global, text: &str) -> Option<simd_json::Error> {
     match read_owned_from::<u8>(rt, alloc, text) {
-        Err(Error::Parse(e)) => Some(e),
-        Err(Error::Mismatch(_e)) => None,
+        Err(ReadError::Parse(e)) => Some(e),
+        Err(ReadError::Mismatch(_e)) => None,
         Ok(_value) => None,
     }
 }
 
 fn mismatch<T: DeserializeOwned>(rt: &impl Abort, alloc: Global, text: &str) -> Mismatch {
     let error = match read_owned_from::<T>(rt, alloc, text) {
-        Err(Error::Mismatch(e)) => Some(e),
-        Err(Error::Parse(_e)) => None,
+        Err(ReadError::Mismatch(e)) => Some(e),
+        Err(ReadError::Parse(_e)) => None,
         Ok(_value) => None,
     };
     error.expect(rt, "it does not fit")

@@ -7,6 +7,7 @@ use simd_json_serde::NodeReader;
 // As they are written there.
 mod page {
     use serde::Deserialize;
+    use simd_json_serde::{ReadError, from_slice_mut};
     use std::alloc::Global;
 
     #[derive(Drop, Deserialize)]
@@ -16,19 +17,19 @@ mod page {
     }
 
     // The status of a line of a log, as `{"level":"info","status":200}`.
-    pub(super) fn status(alloc: Global, input: &mut [u8]) -> Result<u16, simd_json_serde::Error> {
-        let line: Line = simd_json_serde::from_slice_owned(alloc, input)?;
+    pub(super) fn status(alloc: Global, input: &mut [u8]) -> Result<u16, ReadError> {
+        let line: Line = from_slice_mut(alloc, input)?;
         Ok(line.status)
     }
 }
 
 mod reading {
     use simd_json::tape::Value;
-    use simd_json_serde::{Error, from_value};
+    use simd_json_serde::{ReadError, from_value};
     use std::alloc::Global;
 
     // The ports of the first server, if it lists any.
-    pub(super) fn ports(alloc: Global, config: &Value<'_, '_>) -> Result<Vec<u16>, Error> {
+    pub(super) fn ports(alloc: Global, config: &Value<'_, '_>) -> Result<Vec<u16>, ReadError> {
         match config.pointer("/servers/0/ports") {
             Some(ports) => from_value(alloc, &ports),
             None => Ok(Vec::new(alloc)),

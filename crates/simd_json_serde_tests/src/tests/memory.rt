@@ -2,16 +2,16 @@
 // `rt try --test --fail-alloc N` for each N, where the other tests may fail, and these at `SETUP`.
 use crate::tests::types::{Folder, Line, Tweet};
 use simd_json::{Buffers, ErrorType};
-use simd_json_serde::{Error, Kept, MismatchKind, from_slice, from_slice_owned, read};
+use simd_json_serde::{ReadError, Scratch, MismatchKind, from_slice_mut, from_slice_mut_owned, from_slice_mut_with};
 use std::process::Abort;
 
 const SETUP: &str = "what is kept was made";
 
-fn assert_read_or_of_memory<T>(rt: &impl Abort, what: &str, read: &Result<T, Error>) {
+fn assert_read_or_of_memory<T>(rt: &impl Abort, what: &str, read: &Result<T, ReadError>) {
     let is_read = match read {
         Ok(_) => true,
-        Err(Error::Parse(e)) => *e.error() == ErrorType::OutOfMemory,
-        Err(Error::Mismatch(e)) => e.kind() == MismatchKind::OutOfMemory,
+        Err(ReadError::Parse(e)) => *e.error() == ErrorType::OutOfMemory,
+        Err(ReadError::Mismatch(e)) => e.kind() == MismatchKind::OutOfMemory,
     };
     assert!(rt; is_read, "{what}");
 }
@@ -20,19 +20,19 @@ fn assert_read_or_of_memory<T>(rt: &impl Abort, what: &str, read: &Result<T, Err
 fn failed_allocations_are_errors(rt: HostRuntime) {
     let alloc = rt.alloc();
     let mut input = *br#"[{"id":1,"text":"a","handle":"b","place":{"x":0,"y":1}}]"#;
-    let owned: Result<Vec<Tweet>, Error> = from_slice_owned(alloc, &mut input);
+    let owned: Result<Vec<Tweet>, ReadError> = from_slice_mut_owned(alloc, &mut input);
     assert_read_or_of_memory(&rt, "owned", &owned);
     let mut input = *br#"[["a",1.5],["\n",2],["",3]]"#;
-    let borrowed: Result<Vec<(&str, f64)>, Error> = from_slice(alloc, &mut input);
+    let borrowed: Result<Vec<(&str, f64)>, ReadError> = from_slice_mut(alloc, &mut input);
     assert_read_or_of_memory(&rt, "borrowed", &borrowed);
     let mut input = *br#"{"b":{},"a":"x"}"#;
-    let misfit: Result<Folder, Error> = from_slice_owned(alloc, &mut input);
+    let misfit: Result<Folder, ReadError> = from_slice_mut_owned(alloc, &mut input);
     assert!(rt; misfit.is_err(), "a misfit");
-    let mut kept = Kept::new(alloc);
+    let mut scratch = Scratch::new(alloc);
     let mut buffers = Buffers::new(alloc, 0).expect(&rt, SETUP);
     for _ in 0..2 {
         let mut input = *br#"{"level":"\u0041","status":200,"path":"\/a","z":[{}]}"#;
-        let line: Result<Line<'_>, Error> = read(&mut input, &mut buffers, &mut kept);
+        let line: Result<Line<'_>, ReadError> = from_slice_mut_with(&mut input, &mut buffers, &mut scratch);
         assert_read_or_of_memory(&rt, "kept", &line);
     }
 }
@@ -42,13 +42,13 @@ fn failed_allocations_are_errors(rt: HostRuntime) {
 fn reserved_reads_need_no_memory(rt: HostRuntime) {
     let alloc = rt.alloc();
     let text = br#"{"level":"\u0041","status":200,"path":"\/a","z":[[[[[]]]]]}"#;
-    let mut kept = Kept::new(alloc);
+    let mut scratch = Scratch::new(alloc);
     let mut buffers = Buffers::new(alloc, 0).expect(&rt, SETUP);
     buffers.reserve(text.len()).expect(&rt, SETUP);
-    kept.reserve(text.len()).expect(&rt, SETUP);
+    scratch.reserve(text.len()).expect(&rt, SETUP);
     for _ in 0..2 {
         let mut input = *text;
-        let line: Result<Line<'_>, Error> = read(&mut input, &mut buffers, &mut kept);
+        let line: Result<Line<'_>, ReadError> = from_slice_mut_with(&mut input, &mut buffers, &mut scratch);
         assert!(rt; line.is_ok(), "there is memory");
     }
 }

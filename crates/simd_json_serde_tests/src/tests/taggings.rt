@@ -2,7 +2,7 @@
 use crate::tests::{MEMORY, bytes_of};
 use serde::Deserialize;
 use simd_json::Buffers;
-use simd_json_serde::{Error, Kept, from_slice, read};
+use simd_json_serde::{ReadError, Scratch, from_slice_mut, from_slice_mut_with};
 use std::alloc::Global;
 use std::process::Abort;
 
@@ -113,9 +113,9 @@ fn is_value<'a, T: Deserialize<'a> + PartialEq>(
     input: &'a mut [u8],
     plain: &'a str,
     buffers: &mut Buffers<Global>,
-    kept: &mut Kept,
+    scratch: &mut Scratch,
 ) -> bool {
-    let ours: Result<T, Error> = read(input, buffers, kept);
+    let ours: Result<T, ReadError> = from_slice_mut_with(input, buffers, scratch);
     let theirs: Result<T, serde_json::Error> = serde_json::from_str(alloc, plain);
     match (ours, theirs) {
         (Ok(ours), Ok(theirs)) => {
@@ -134,20 +134,20 @@ fn is_value<'a, T: Deserialize<'a> + PartialEq>(
 fn strings_of_all_taggings_are_borrowed(rt: HostRuntime) {
     let alloc = rt.alloc();
     let mut buffers = Buffers::new(alloc, 0).expect(&rt, MEMORY);
-    let mut kept = Kept::new(alloc);
-    let (buffers, kept) = (&mut buffers, &mut kept);
+    let mut scratch = Scratch::new(alloc);
+    let (buffers, scratch) = (&mut buffers, &mut scratch);
     let (mut any, mut events, mut adjacent, mut flat) = (0u8, 0u8, 0u8, 0u8);
     for (text, plain) in ROWS {
         let mut input = bytes_of(&rt, alloc, text);
-        any += u8::from(is_value::<Any<'_>>(&rt, alloc, &mut input, plain, buffers, kept));
+        any += u8::from(is_value::<Any<'_>>(&rt, alloc, &mut input, plain, buffers, scratch));
         let mut input = bytes_of(&rt, alloc, text);
-        events += u8::from(is_value::<Event<'_>>(&rt, alloc, &mut input, plain, buffers, kept));
+        events += u8::from(is_value::<Event<'_>>(&rt, alloc, &mut input, plain, buffers, scratch));
         let mut input = bytes_of(&rt, alloc, text);
         adjacent += u8::from(is_value::<Adjacent<'_>>(
-            &rt, alloc, &mut input, plain, buffers, kept,
+            &rt, alloc, &mut input, plain, buffers, scratch,
         ));
         let mut input = bytes_of(&rt, alloc, text);
-        flat += u8::from(is_value::<Flat<'_>>(&rt, alloc, &mut input, plain, buffers, kept));
+        flat += u8::from(is_value::<Flat<'_>>(&rt, alloc, &mut input, plain, buffers, scratch));
     }
     assert_eq!(rt; (any, events, adjacent, flat), (8, 6, 4, 1));
 }
@@ -169,7 +169,7 @@ fn strings_of_each_length_are_borrowed(rt: HostRuntime) {
             input.extend_from_slice(tail.as_bytes()).expect(&rt, MEMORY);
             input.extend_from_slice(b"\"").expect(&rt, MEMORY);
             wanted.push_str(decoded).expect(&rt, MEMORY);
-            let text: Result<&str, Error> = from_slice(alloc, &mut input);
+            let text: Result<&str, ReadError> = from_slice_mut(alloc, &mut input);
             assert_eq!(rt; text.ok(), Some(wanted.as_str()));
         }
     }

@@ -2,7 +2,7 @@
 use crate::tests::types::{Command, Message, Placed, Shape};
 use crate::tests::{MEMORY, read_owned_from};
 use serde::{Described, DeserializeOwned, Serialize, Serializer};
-use simd_json::to_tape;
+use simd_json::{ErrorType, to_tape};
 use simd_json_serde::{
     WriteError, to_string, to_string_pretty, to_vec, to_vec_pretty, to_writer, to_writer_pretty,
 };
@@ -167,28 +167,49 @@ fn objects_are_flattened(rt: HostRuntime) {
         last: true,
     };
     let text = to_vec(alloc, &flat);
-    assert!(rt; matches!(text, Err(WriteError::Misplaced)), "no object");
+    assert!(rt; matches!(text, Err(WriteError::Value(_))), "no object");
 }
 
-// `serde_json` writes null for such a float.
+#[test]
+fn floats_without_a_literal_are_null(rt: HostRuntime) {
+    let alloc = rt.alloc();
+    for float in [f64::NAN, f64::INFINITY, f64::NEG_INFINITY] {
+        let text = to_string(alloc, &[1.5, float]).ok().expect(&rt, MEMORY);
+        assert_eq!(rt; text.as_str(), "[1.5,null]");
+    }
+}
+
+// Its steps are those of no JSON text.
+#[derive(Drop)]
+struct Unclosed;
+
+impl Described for Unclosed {}
+
+impl Serialize for Unclosed {
+    fn serialize<S: Serializer>(&self, out: &mut S) -> Result<(), S::Error> {
+        out.begin_seq(None)
+    }
+}
+
 #[test]
 fn what_has_no_text_is_an_error(rt: HostRuntime) {
     let alloc = rt.alloc();
-    for float in [f64::NAN, f64::INFINITY, f64::NEG_INFINITY] {
-        let text = to_vec(alloc, &[1.5, float]);
-        assert!(rt; matches!(text, Err(WriteError::NotFinite)), "no number");
-    }
+    let text = to_vec(alloc, &Unclosed);
+    let error = text.err().expect(&rt, "no document");
+    assert!(rt; matches!(error, WriteError::Text(_)), "no document");
+    let text = error.to_string(alloc).expect(&rt, MEMORY);
+    assert_eq!(rt; text.as_str(), "Syntax at character 0 ('[')");
     let mut map = BTreeMap::new(alloc);
     let inserted: Result<_, _> = map.insert((1u8, 2u8), true);
     assert!(rt; inserted.is_ok(), "{}", MEMORY);
     let text = to_vec_pretty(alloc, &map);
-    assert!(rt; matches!(text, Err(WriteError::KeyKind)), "no key");
+    assert!(rt; matches!(text, Err(WriteError::Value(_))), "no key");
     let mut written = Narrow {
         left: 100,
         text: Vec::new(alloc),
     };
     let result = to_writer(alloc, &mut written, &map);
-    assert!(rt; matches!(result, Err(WriteError::KeyKind)), "no key");
+    assert!(rt; matches!(result, Err(WriteError::Value(_))), "no key");
     assert!(rt; written.text.is_empty(), "nothing is written");
 }
 
@@ -257,7 +278,10 @@ fn failed_allocations_of_a_text_are_errors(rt: HostRuntime) {
     let alloc = rt.alloc();
     match to_string_pretty(alloc, &[Some("a"), None]) {
         Ok(text) => assert_eq!(rt; text.as_str(), "[\n  \"a\",\n  null\n]"),
-        Err(WriteError::OutOfMemory) => {}
-        Err(_) => assert!(rt; false, "of memory"),
+        Err(WriteError::Value(e)) => assert!(rt; e.is_memory(), "of memory"),
+        Err(WriteError::Text(e)) => {
+            assert_eq!(rt; *e.error(), ErrorType::OutOfMemory);
+        }
+        Err(WriteError::Io(_)) => assert!(rt; false, "nothing is written"),
     }
 }

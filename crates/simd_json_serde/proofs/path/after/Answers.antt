@@ -7,12 +7,12 @@ use Rattle.simd_json_serde.proofs.path.after.Goals as goal
 pub returns-in_default-clause-value : goal.returns-in_default-clause-value
 returns-in_default-clause-value c = λ d h. absurd (some-at (items_of c.args.nodes) c.args.at d h c.in_default.ensures)
 
-pub returns-then-beneath-saturating_sub-clause-value : goal.returns-then-beneath-saturating_sub-clause-value
-returns-then-beneath-saturating_sub-clause-value c = λ d h.
+pub returns-then-count-saturating_sub-clause-value : goal.returns-then-count-saturating_sub-clause-value
+returns-then-count-saturating_sub-clause-value c = λ d h.
     absurd (omega (
       arith,
-      c.if-beneath-saturating_sub.true,
-      c.beneath-beneath.ensures,
+      c.if-count-saturating_sub.true,
+      c.count-count.ensures,
       c.saturating_sub.ensures,
       c.len.ensures,
       sized-at (items_of c.args.nodes) c.args.at (item_of c.in-Some.node) d (sym c.in-Some.ensures) h,
@@ -22,4 +22,4 @@ returns-then-beneath-saturating_sub-clause-value c = λ d h.
 pub returns-clause-value : goal.returns-clause-value
 returns-clause-value c = λ d h.
     let size = sized-at (items_of c.args.nodes) c.args.at (item_of c.in-Some.node) d (sym c.in-Some.ensures) h in
-    omega (arith, c.beneath-beneath.ensures, size)
+    omega (arith, c.count-count.ensures, size)

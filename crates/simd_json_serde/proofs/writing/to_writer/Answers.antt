@@ -1,15 +1,13 @@
 use Rattle.std.proofs.Common.{sym, subst, false}
-use Rattle.std.proofs.Math.Logic.{∥∥₁_map}
-use Rattle.simd_json_serde.specs.Sent.{IsPrinted}
-use Rattle.simd_json_serde.proofs.Sent.{unwritten, written-out}
+use Rattle.simd_json_serde.specs.WrittenOut.{IsPrinted}
+use Rattle.simd_json_serde.proofs.Printed.{unwritten, written-out}
 use Rattle.simd_json_serde.proofs.writing.to_writer.Goals as goal
 
 pub returns-in_err-text : goal.returns-in_err-text
-returns-in_err-text g c = ∣ unwritten (IsPrinted false (g.T.Described.writes c.args.value.now)) c.from_residual.result _
-    c.from_residual.ensures.0 ∣₁
+returns-in_err-text g c = unwritten (IsPrinted false (g.T.Described.writes c.args.value.now)) c.from_residual.result _ c.from_residual.ensures.0
 
 pub returns : goal.returns
 returns g c =
     let P = IsPrinted false (g.T.Described.writes c.args.value.now) in
-    ∥∥₁_map c.in_ok-text.ensures (λ is. written-out P c.write_all.result c.map_err.result c.deref.result.now _ _
-    (subst P (sym c.deref.ensures.value) is) c.map_err.ensures.cases c.write_all.ensures.written c.write_all.ensures.begun)
+    written-out P c.write_all.result c.map_err.result c.deref.result.now _ _ (subst P (sym c.deref.ensures.value) c.in_ok-text.ensures)
+    c.map_err.ensures.cases c.write_all.ensures.written c.write_all.ensures.begun

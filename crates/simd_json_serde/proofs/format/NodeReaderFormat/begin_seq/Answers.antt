@@ -1,10 +1,10 @@
 use Rattle.std.proofs.Common.{ap}
 use Rattle.simd_json_parts.specs.Nodes.{item_of, array_item}
-use Rattle.simd_json_serde.specs.Places.{place}
+use Rattle.simd_json_serde.specs.Places.{spot}
 use Rattle.simd_json_serde.proofs.Values.{opened}
 use Rattle.simd_json_serde.proofs.format.NodeReaderFormat.begin_seq.Goals as goal
 
 pub returns-in-Array-clause-given : goal.returns-in-Array-clause-given
-returns-in-Array-clause-given c = opened c.enter.result array_item (place c.args.self.now) (place c.take.new.self) (place c.enter.new.self)
+returns-in-Array-clause-given c = opened c.enter.result array_item (spot c.args.self.now) (spot c.take.new.self) (spot c.enter.new.self)
     (item_of c.in_ok-other.other) _ _ c.in_ok-other.ensures.taken
     (ap item_of c.in-Array.is) c.enter.ensures.entered
