@@ -57,7 +57,7 @@ FNR == 1 { inside = ""; asks = 0 }
 }
 name == "" { next }
 /^ *ensures / { has = 1; end(); next }
-/^ *requires / { clauses = 1 }
+/^ *(ghost|requires) / { clauses = 1 }
 /^ *(\{|\{\})$/ || /;$/ || !clauses && /[{}]$/ { end() }
 END { end() }
 END
