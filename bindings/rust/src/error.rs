@@ -1,64 +1,71 @@
 //! Why an input is rejected, and where.
-use crate::ffi::located;
+use crate::ffi::{located, Position};
 use std::fmt;
 
-macro_rules! kinds {
-    ($($(#[$doc:meta])* $name:ident = $status:literal,)*) => {
-        /// The kind of an error, as `simd-json` names it.
+/// An enum with the numbers of the header, which a test compares.
+macro_rules! numbered {
+    ($(#[$about:meta])* $type:ident { $($(#[$doc:meta])* $name:ident = $number:literal,)* }) => {
+        $(#[$about])*
         #[derive(Clone, Copy, Debug, PartialEq, Eq, Hash)]
-        #[non_exhaustive]
-        pub enum ErrorType {
-            $($(#[$doc])* $name = $status,)*
+        pub enum $type {
+            $($(#[$doc])* $name = $number,)*
         }
 
-        impl ErrorType {
-            pub(crate) fn of_status(status: i32) -> Option<ErrorType> {
-                match status {
-                    $($status => Some(ErrorType::$name),)*
+        impl $type {
+            #[inline]
+            pub(crate) fn numbered(number: u32) -> Option<$type> {
+                match number {
+                    $($number => Some($type::$name),)*
                     _ => None,
                 }
             }
         }
     };
 }
+pub(crate) use numbered;
 
-kinds! {
-    /// An allocation failed.
-    OutOfMemory = 1,
-    /// More than 4,294,967,295 bytes.
-    InputTooLarge = 2,
-    /// Not UTF-8 (RFC 3629).
-    InvalidUtf8 = 3,
-    /// A string has no end, or contains a byte below 0x20; with a character: the input ends early, reported at the last token.
-    Syntax = 4,
-    /// Nothing but whitespace.
-    Eof = 5,
-    /// No value where one is expected; or more text after the root container, reported at its closing bracket.
-    InternalError = 6,
-    /// No `,` or `]` after an element.
-    ExpectedArrayContent = 7,
-    /// No key or `}` after `{`, no `,` or `}` after a member.
-    ExpectedObjectContent = 8,
-    /// No key after `,`.
-    ExpectedObjectKey = 9,
-    /// No `:` after a key.
-    ExpectedObjectColon = 10,
-    /// More text after a root scalar, reported at the scalar.
-    TrailingData = 11,
-    /// More containers are open than the depth limit allows.
-    DepthLimitExceeded = 12,
-    /// Another word that begins with `t`.
-    ExpectedTrue = 13,
-    /// Another word that begins with `f`.
-    ExpectedFalse = 14,
-    /// Another word that begins with `n`.
-    ExpectedNull = 15,
-    /// A malformed number, or an integer out of range.
-    InvalidNumber = 16,
-    /// A backslash before a byte that no escape has.
-    InvalidEscape = 17,
-    /// A malformed `\u` escape, or half of a surrogate pair.
-    InvalidUnicodeCodepoint = 18,
+numbered! {
+    /// The kind of an error, as `simd-json` names it.
+    #[non_exhaustive]
+    ErrorType {
+        /// An allocation failed.
+        OutOfMemory = 1,
+        /// More than 4,294,967,295 bytes.
+        InputTooLarge = 2,
+        /// Not UTF-8 (RFC 3629).
+        InvalidUtf8 = 3,
+        /// A string has no end, or contains a byte below 0x20; with a character: the input ends early, reported at the
+        /// last token.
+        Syntax = 4,
+        /// Nothing but whitespace.
+        Eof = 5,
+        /// No value where one is expected; or more text after the root container, reported at its closing bracket.
+        InternalError = 6,
+        /// No `,` or `]` after an element.
+        ExpectedArrayContent = 7,
+        /// No key or `}` after `{`, no `,` or `}` after a member.
+        ExpectedObjectContent = 8,
+        /// No key after `,`.
+        ExpectedObjectKey = 9,
+        /// No `:` after a key.
+        ExpectedObjectColon = 10,
+        /// More text after a root scalar, reported at the scalar.
+        TrailingData = 11,
+        /// More containers are open than the depth limit allows.
+        DepthLimitExceeded = 12,
+        /// Another word that begins with `t`.
+        ExpectedTrue = 13,
+        /// Another word that begins with `f`.
+        ExpectedFalse = 14,
+        /// Another word that begins with `n`.
+        ExpectedNull = 15,
+        /// A malformed number, or an integer out of range.
+        InvalidNumber = 16,
+        /// A backslash before a byte that no escape has.
+        InvalidEscape = 17,
+        /// A malformed `\u` escape, or half of a surrogate pair.
+        InvalidUnicodeCodepoint = 18,
+    }
 }
 
 impl fmt::Display for ErrorType {
@@ -111,27 +118,25 @@ impl Error {
 /// Where and why an input is rejected: [`Error::location`].
 #[derive(Clone, Debug, PartialEq, Eq)]
 pub struct Location {
-    pub(crate) byte: usize,
-    pub(crate) line: usize,
-    pub(crate) column: usize,
+    pub(crate) position: Position,
     pub(crate) reason: String,
 }
 
 impl Location {
-    /// The index in bytes: that of the error; for more text after a document that of this text; for an error of the whole input
-    /// that of the bytes which are wrong.
+    /// The index in bytes: that of the error; for more text after a document that of this text; for an error of the
+    /// whole input that of the bytes which are wrong.
     pub fn byte(&self) -> usize {
-        self.byte
+        self.position.byte
     }
 
     /// The line, by line feeds, from 1.
     pub fn line(&self) -> usize {
-        self.line
+        self.position.line
     }
 
     /// The column, in characters, from 1.
     pub fn column(&self) -> usize {
-        self.column
+        self.position.column
     }
 
     /// The reason, as "expected a value, found `]`".
@@ -142,7 +147,7 @@ impl Location {
 
 impl fmt::Display for Location {
     fn fmt(&self, f: &mut fmt::Formatter<'_>) -> fmt::Result {
-        write!(f, "{}:{}: {}", self.line, self.column, self.reason)
+        write!(f, "{}:{}: {}", self.line(), self.column(), self.reason)
     }
 }
 

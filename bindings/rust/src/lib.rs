@@ -5,8 +5,6 @@ mod compare;
 mod de;
 mod error;
 mod ffi;
-mod number;
-mod print;
 #[cfg(feature = "serde")]
 mod ser;
 mod value;
@@ -17,8 +15,13 @@ pub use error::{Error, ErrorType, Location};
 pub use ffi::{check, Buffers, Index};
 pub use value::{Array, Object, Tape, Value, ValueType};
 
-/// Parses a document into a tape, which borrows the input: its strings and literals are there. The input is overwritten, since
-/// escapes are decoded in place.
+#[cfg(doctest)]
+#[doc = include_str!("../tests/must_not_compile.md")]
+#[cfg_attr(feature = "serde", doc = include_str!("../tests/must_not_compile_serde.md"))]
+mod must_not_compile {}
+
+/// Parses a document into a tape, which borrows the input: its strings and literals are there. The input is
+/// overwritten, since escapes are decoded in place.
 ///
 /// ```
 /// let mut input = *br#"{"name":"\u00e9"}"#;
@@ -27,51 +30,14 @@ pub use value::{Array, Object, Tape, Value, ValueType};
 /// # Ok::<(), simd_json_proved::Error>(())
 /// ```
 ///
-/// While there is a tape its input is neither changed, nor read, nor dropped, so these do not compile:
-///
-/// ```compile_fail,E0506
-/// let mut input = *b"[1]";
-/// let tape = simd_json_proved::to_tape(&mut input).unwrap();
-/// input[1] = b'2';
-/// println!("{tape}");
-/// ```
-///
-/// ```compile_fail,E0502
-/// let mut input = *b"[1]";
-/// let tape = simd_json_proved::to_tape(&mut input).unwrap();
-/// println!("{:?}", input);
-/// println!("{tape}");
-/// ```
-///
-/// ```compile_fail,E0505
-/// let mut input = b"[1]".to_vec();
-/// let tape = simd_json_proved::to_tape(&mut input).unwrap();
-/// drop(input);
-/// println!("{tape}");
-/// ```
-///
-/// ```compile_fail,E0515
-/// fn settings(mut text: Vec<u8>) -> simd_json_proved::Tape<'static> {
-///     simd_json_proved::to_tape(&mut text).unwrap()
-/// }
-/// ```
-///
-/// And no text outlives its tape:
-///
-/// ```compile_fail,E0505
-/// let mut input = *br#"["a"]"#;
-/// let tape = simd_json_proved::to_tape(&mut input).unwrap();
-/// let text = tape.as_value().get_idx(0).unwrap().as_str().unwrap();
-/// drop(tape);
-/// println!("{text}");
-/// ```
+/// While there is a tape its input is neither changed, nor read, nor dropped, and no text outlives its tape.
 ///
 /// # Errors
 ///
 /// The first error of the input, with its kind, index and character.
 pub fn to_tape(input: &mut [u8]) -> Result<Tape<'_>, Error> {
     let mut buffers = Buffers::new()?;
-    let document = buffers.document(input)?;
+    let document = buffers.parser.parse(input)?;
     Ok(Tape::owned(document, buffers, Vec::new()))
 }
 
@@ -92,6 +58,6 @@ pub fn to_tape(input: &mut [u8]) -> Result<Tape<'_>, Error> {
 /// The first error of the input, with its kind, index and character.
 pub fn to_owned_tape(input: impl Into<Vec<u8>>) -> Result<Tape<'static>, Error> {
     let (mut buffers, mut input) = (Buffers::new()?, input.into());
-    let document = buffers.document(&mut input)?;
+    let document = buffers.parser.parse(&mut input)?;
     Ok(Tape::owned(document, buffers, input))
 }

@@ -2,8 +2,8 @@
 use crate::value::{Tape, Value, ValueType};
 use serde::ser::{Serialize, Serializer};
 
-/// Integers as they are, of up to 128 bits; a number with a fraction or an exponent as the nearest `f64`. It takes stack for each
-/// container that is open, of which there are at most as many as the `Buffers` allow.
+/// Integers as they are, of up to 128 bits; a number with a fraction or an exponent as the nearest `f64`. It takes
+/// stack for each container that is open, of which there are at most as many as the `Buffers` allow.
 impl Serialize for Value<'_> {
     fn serialize<S: Serializer>(&self, serializer: S) -> Result<S::Ok, S::Error> {
         match self.value_type() {
@@ -13,7 +13,7 @@ impl Serialize for Value<'_> {
             ValueType::I128 => serializer.serialize_i128(self.as_i128().unwrap_or_default()),
             ValueType::U128 => serializer.serialize_u128(self.as_u128().unwrap_or_default()),
             ValueType::Decimal => serializer.serialize_f64(self.as_f64().unwrap_or_default()),
-            ValueType::String => serializer.serialize_str(self.literal()),
+            ValueType::String => serializer.serialize_str(self.as_str().unwrap_or_default()),
             ValueType::Array => serializer.collect_seq(self.as_array().into_iter().flatten()),
             ValueType::Object => serializer.collect_map(self.as_object().into_iter().flatten()),
             ValueType::Null => serializer.serialize_unit(),

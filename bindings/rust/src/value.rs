@@ -1,47 +1,35 @@
-//! Values of a tape. A node of a container is followed by the nodes of its members; its `value` is how many they are.
-use crate::ffi::{pointed, Buffers, Document, Node, Texts};
-use crate::number::nearest;
-use std::fmt;
+//! Values of a tape. A node of a container is followed by the nodes of its members.
+use crate::error::numbered;
+use crate::ffi::{Buffers, Document, Node, Nodes};
+use std::fmt::{self, Formatter};
 use std::iter::FusedIterator;
 use std::marker::PhantomData;
 
-/// The kind of a value.
-#[derive(Clone, Copy, Debug, PartialEq, Eq, Hash)]
-pub enum ValueType {
-    /// `null`
-    Null,
-    /// `true` or `false`
-    Bool,
-    /// An integer with a `-`, of 64 bits
-    I64,
-    /// An integer without a `-`, of 64 bits
-    U64,
-    /// An integer with a `-`, of 128 bits
-    I128,
-    /// An integer without a `-`, of 128 bits
-    U128,
-    /// A number with a fraction or an exponent
-    Decimal,
-    /// A string
-    String,
-    /// An array
-    Array,
-    /// An object
-    Object,
+numbered! {
+    /// The kind of a value.
+    ValueType {
+        /// `null`
+        Null = 0,
+        /// `true` or `false`
+        Bool = 1,
+        /// An integer with a `-`, of 64 bits
+        I64 = 2,
+        /// An integer without a `-`, of 64 bits
+        U64 = 3,
+        /// An integer with a `-`, of 128 bits
+        I128 = 4,
+        /// An integer without a `-`, of 128 bits
+        U128 = 5,
+        /// A number with a fraction or an exponent
+        Decimal = 6,
+        /// A string
+        String = 7,
+        /// An array
+        Array = 8,
+        /// An object
+        Object = 9,
+    }
 }
-
-const KINDS: [ValueType; 10] = [
-    ValueType::Null,
-    ValueType::Bool,
-    ValueType::I64,
-    ValueType::U64,
-    ValueType::I128,
-    ValueType::U128,
-    ValueType::Decimal,
-    ValueType::String,
-    ValueType::Array,
-    ValueType::Object,
-];
 
 macro_rules! integers {
     ($($name:ident $type:ty,)*) => {$(
@@ -66,7 +54,7 @@ impl<'input> Tape<'input> {
         Tape { document, _own: None, _borrowed: PhantomData }
     }
 
-    /// The tape of these buffers, and of this input, unless that is borrowed. What they hold stays where it is when they are moved.
+    /// The tape of these buffers, and of this input, unless that is borrowed. What they hold is not moved with them.
     pub(crate) fn owned(document: Document, buffers: Buffers, input: Vec<u8>) -> Tape<'input> {
         Tape { document, _own: Some((buffers, input)), _borrowed: PhantomData }
     }
@@ -78,76 +66,40 @@ impl<'input> Tape<'input> {
 
     /// How many nodes the document has: values and keys.
     pub fn node_count(&self) -> usize {
-        self.as_value().nodes.len()
+        self.as_value().0.first().count()
     }
 }
 
 impl fmt::Debug for Tape<'_> {
-    fn fmt(&self, f: &mut fmt::Formatter<'_>) -> fmt::Result {
+    fn fmt(&self, f: &mut Formatter<'_>) -> fmt::Result {
         f.debug_tuple("Tape").field(&self.as_value()).finish()
+    }
+}
+
+/// The text of the document, as of a [`Value`].
+impl fmt::Display for Tape<'_> {
+    fn fmt(&self, f: &mut Formatter<'_>) -> fmt::Result {
+        self.as_value().fmt(f)
     }
 }
 
 /// A value of a tape.
 #[derive(Clone, Copy)]
-pub struct Value<'tape> {
-    // its nodes, and those after them
-    nodes: &'tape [Node],
-    texts: Texts<'tape>,
-}
+pub struct Value<'tape>(pub(crate) Nodes<'tape, 'tape>);
 
 impl<'tape> Value<'tape> {
-    /// The value of the first of the nodes, at least one.
-    pub(crate) fn new(nodes: &'tape [Node], texts: Texts<'tape>) -> Value<'tape> {
-        Value { nodes, texts }
-    }
-
-    fn node(self) -> &'tape Node {
-        &self.nodes[0]
-    }
-
-    /// The value of the nodes from an index on.
-    pub(crate) fn at(self, index: usize) -> Value<'tape> {
-        Value { nodes: &self.nodes[index..], texts: self.texts }
-    }
-
-    /// How many nodes it has.
-    pub(crate) fn count(self) -> usize {
-        match self.value_type() {
-            ValueType::Array | ValueType::Object => 1 + self.node().value as usize,
-            _ => 1,
-        }
-    }
-
-    /// Its nodes, and the texts of the document.
-    #[cfg(feature = "serde")]
-    pub(crate) fn parts(self) -> (&'tape [Node], Texts<'tape>) {
-        (&self.nodes[..self.count()], self.texts)
-    }
-
-    /// Its nodes, each as a value: of an object the keys too.
-    pub(crate) fn preorder(self) -> impl Iterator<Item = Value<'tape>> {
-        (0..self.count()).map(move |index| self.at(index))
-    }
-
-    /// How many elements or pairs it has, or of a text how many bytes.
-    pub(crate) fn node_len(self) -> usize {
-        self.node().len as usize
-    }
-
-    /// The text of a string, of a key, of a decimal, or of an integer beyond 64 bits.
-    pub(crate) fn literal(self) -> &'tape str {
-        self.texts.of(self.node())
-    }
-
     /// Its kind.
     pub fn value_type(self) -> ValueType {
-        KINDS[self.node().kind as usize]
+        self.node().kind()
     }
 
     /// Whether it is null.
     pub fn is_null(self) -> bool {
         self.value_type() == ValueType::Null
+    }
+
+    fn node(self) -> &'tape Node {
+        self.0.first()
     }
 
     /// The truth value, or `None`.
@@ -160,7 +112,8 @@ impl<'tape> Value<'tape> {
         match self.value_type() {
             ValueType::I64 => Some(i128::from(self.node().value as i64)),
             ValueType::U64 => Some(i128::from(self.node().value)),
-            ValueType::I128 | ValueType::U128 => self.literal().parse().ok(),
+            ValueType::I128 => Some(self.0.wide(self.node()) as i128),
+            ValueType::U128 => i128::try_from(self.0.wide(self.node())).ok(),
             _ => None,
         }
     }
@@ -168,7 +121,7 @@ impl<'tape> Value<'tape> {
     /// The integer, if it is not negative.
     pub fn as_u128(self) -> Option<u128> {
         match self.value_type() {
-            ValueType::U128 => self.literal().parse().ok(),
+            ValueType::U128 => Some(self.0.wide(self.node())),
             _ => self.as_i128().and_then(|number| u128::try_from(number).ok()),
         }
     }
@@ -183,7 +136,7 @@ impl<'tape> Value<'tape> {
         match self.value_type() {
             ValueType::I64 => Some(self.node().value as i64 as f64),
             ValueType::U64 => Some(self.node().value as f64),
-            ValueType::I128 | ValueType::U128 | ValueType::Decimal => Some(nearest(self.literal().as_bytes())),
+            ValueType::I128 | ValueType::U128 | ValueType::Decimal => Some(self.0.double(self.node())),
             _ => None,
         }
     }
@@ -193,34 +146,36 @@ impl<'tape> Value<'tape> {
         match self.value_type() {
             ValueType::I64 => Some(self.node().value as i64 as f32),
             ValueType::U64 => Some(self.node().value as f32),
-            ValueType::I128 | ValueType::U128 | ValueType::Decimal => self.literal().parse().ok(),
+            ValueType::I128 | ValueType::U128 | ValueType::Decimal => self.0.text(self.node()).parse().ok(),
             _ => None,
         }
     }
 
     /// The literal of a number with a fraction or an exponent, as it is written.
     pub fn as_decimal(self) -> Option<&'tape str> {
-        (self.value_type() == ValueType::Decimal).then(|| self.literal())
+        (self.value_type() == ValueType::Decimal).then(|| self.0.text(self.node()))
     }
 
     /// The string, with its escapes decoded.
     pub fn as_str(self) -> Option<&'tape str> {
-        (self.value_type() == ValueType::String).then(|| self.literal())
+        (self.value_type() == ValueType::String).then(|| self.0.text(self.node()))
     }
 
     /// The elements, if it is an array.
     pub fn as_array(self) -> Option<Array<'tape>> {
-        (self.value_type() == ValueType::Array).then(|| Array { rest: self.at(1), left: self.node().len as usize })
+        let left = self.node().len as usize;
+        (self.value_type() == ValueType::Array).then(|| Array { rest: self.0.from(1), left })
     }
 
     /// The members, if it is an object.
     pub fn as_object(self) -> Option<Object<'tape>> {
-        (self.value_type() == ValueType::Object).then(|| Object { rest: self.at(1), left: self.node().len as usize })
+        let left = self.node().len as usize;
+        (self.value_type() == ValueType::Object).then(|| Object { rest: self.0.from(1), left })
     }
 
     /// The value of the first member of an object with this key.
     pub fn get(self, key: &str) -> Option<Value<'tape>> {
-        self.as_object()?.find(|(name, _)| *name == key).map(|(_, value)| value)
+        self.0.get(key).map(Value)
     }
 
     /// The element of an array with this index.
@@ -237,91 +192,83 @@ impl<'tape> Value<'tape> {
     /// # Ok::<(), simd_json_proved::Error>(())
     /// ```
     pub fn pointer(self, pointer: &str) -> Option<Value<'tape>> {
-        pointed(self.nodes, self.texts, pointer).map(|index| self.at(index))
+        self.0.pointer(pointer).map(Value)
     }
 }
 
 /// A scalar, or how many members a container has.
 impl fmt::Debug for Value<'_> {
-    fn fmt(&self, f: &mut fmt::Formatter<'_>) -> fmt::Result {
+    fn fmt(&self, f: &mut Formatter<'_>) -> fmt::Result {
         let (kind, node) = (self.value_type(), self.node());
         match kind {
             ValueType::Null => write!(f, "Null"),
-            ValueType::Bool => write!(f, "Bool({})", node.value != 0),
-            ValueType::I64 => write!(f, "I64({})", node.value as i64),
-            ValueType::U64 => write!(f, "U64({})", node.value),
-            ValueType::I128 | ValueType::U128 | ValueType::Decimal => write!(f, "{kind:?}({})", self.literal()),
-            ValueType::String => write!(f, "String({:?})", self.literal()),
+            ValueType::String => write!(f, "String({:?})", self.0.text(node)),
             ValueType::Array | ValueType::Object => write!(f, "{kind:?}(len {})", node.len),
+            _ => write!(f, "{kind:?}({self})"),
         }
     }
 }
 
-/// The elements of an array that are left.
-#[derive(Clone, Copy)]
-pub struct Array<'tape> {
-    // after the last element what follows the array, if anything does
-    rest: Value<'tape>,
-    left: usize,
-}
-
-/// The elements that are left.
-impl fmt::Debug for Array<'_> {
-    fn fmt(&self, f: &mut fmt::Formatter<'_>) -> fmt::Result {
-        f.debug_list().entries(*self).finish()
+/// The text of the value, as a document: compact, or by `{:#}` with a line for each member, after two spaces for each
+/// container that is open there. Decimals are their literals, so nothing of a number is lost. An error if an allocation
+/// fails.
+///
+/// ```
+/// let mut input = *br#"{ "size": [1.50, "\u00e9"] }"#;
+/// let tape = simd_json_proved::to_tape(&mut input)?;
+/// assert_eq!(tape.as_value().to_string(), r#"{"size":[1.50,"é"]}"#);
+/// # Ok::<(), simd_json_proved::Error>(())
+/// ```
+impl fmt::Display for Value<'_> {
+    fn fmt(&self, f: &mut Formatter<'_>) -> fmt::Result {
+        f.write_str(&self.0.printed(f.alternate()).ok_or(fmt::Error)?)
     }
 }
 
-impl<'tape> Iterator for Array<'tape> {
-    type Item = Value<'tape>;
+/// An iterator over the members of a container.
+macro_rules! members {
+    ($($(#[$doc:meta])* $name:ident of $item:ty, shown by $show:ident, |$member:ident| $made:expr;)*) => {$(
+        $(#[$doc])*
+        #[derive(Clone, Copy)]
+        pub struct $name<'tape> {
+            // after the last member what follows the container, if anything does
+            rest: Nodes<'tape, 'tape>,
+            left: usize,
+        }
 
-    fn next(&mut self) -> Option<Value<'tape>> {
-        self.left = self.left.checked_sub(1)?;
-        let value = self.rest;
-        self.rest = value.at(value.count());
-        Some(value)
-    }
+        /// The members that are left.
+        impl fmt::Debug for $name<'_> {
+            fn fmt(&self, f: &mut Formatter<'_>) -> fmt::Result {
+                f.$show().entries(*self).finish()
+            }
+        }
 
-    fn size_hint(&self) -> (usize, Option<usize>) {
-        (self.left, Some(self.left))
-    }
+        impl<'tape> Iterator for $name<'tape> {
+            type Item = $item;
+
+            fn next(&mut self) -> Option<$item> {
+                self.left = self.left.checked_sub(1)?;
+                let $member = self.rest;
+                let (value, item) = $made;
+                self.rest = value.from(value.first().count());
+                Some(item)
+            }
+
+            fn size_hint(&self) -> (usize, Option<usize>) {
+                (self.left, Some(self.left))
+            }
+        }
+
+        impl ExactSizeIterator for $name<'_> {}
+
+        impl FusedIterator for $name<'_> {}
+    )*};
 }
 
-impl ExactSizeIterator for Array<'_> {}
-
-impl FusedIterator for Array<'_> {}
-
-/// The members of an object that are left, each a key and a value.
-#[derive(Clone, Copy)]
-pub struct Object<'tape> {
-    // after the last member what follows the object, if anything does
-    rest: Value<'tape>,
-    left: usize,
+members! {
+    /// The elements of an array that are left.
+    Array of Value<'tape>, shown by debug_list, |element| (element, Value(element));
+    /// The members of an object that are left, each a key and a value.
+    Object of (&'tape str, Value<'tape>), shown by debug_map,
+        |key| (key.from(1), (key.text(key.first()), Value(key.from(1))));
 }
-
-/// The members that are left.
-impl fmt::Debug for Object<'_> {
-    fn fmt(&self, f: &mut fmt::Formatter<'_>) -> fmt::Result {
-        f.debug_map().entries(*self).finish()
-    }
-}
-
-impl<'tape> Iterator for Object<'tape> {
-    type Item = (&'tape str, Value<'tape>);
-
-    fn next(&mut self) -> Option<(&'tape str, Value<'tape>)> {
-        self.left = self.left.checked_sub(1)?;
-        let key = self.rest.literal();
-        let value = self.rest.at(1);
-        self.rest = value.at(value.count());
-        Some((key, value))
-    }
-
-    fn size_hint(&self) -> (usize, Option<usize>) {
-        (self.left, Some(self.left))
-    }
-}
-
-impl ExactSizeIterator for Object<'_> {}
-
-impl FusedIterator for Object<'_> {}

@@ -102,8 +102,8 @@ fn judge_pointer(document: &[u8], pointer: &[u8], wanted: &str, row: &str) {
     let tape = to_tape(&mut input).unwrap();
     let pointer = std::str::from_utf8(pointer).unwrap();
     let mut buffers = Buffers::default();
-    let mut index = buffers.index(document).unwrap();
-    for found in [tape.as_value().pointer(pointer), index.find(pointer).unwrap()] {
+    let mut index = buffers.scan(document).unwrap();
+    for found in [tape.as_value().pointer(pointer), index.pointer(pointer).unwrap()] {
         if wanted.starts_with("! ") {
             assert!(found.is_none(), "{row}");
         } else {
@@ -173,6 +173,51 @@ fn judge_rows() {
 fn rows() {
     // The recursion of this test, not of the library, needs more stack than a test has.
     std::thread::Builder::new().stack_size(64 << 20).spawn(judge_rows).unwrap().join().unwrap();
+}
+
+// The enums, and what the crate has by number besides, are as the header has them.
+#[test]
+fn numbers_are_those_of_the_header() {
+    use ErrorType::*;
+    let folder = Path::new(env!("CARGO_MANIFEST_DIR"));
+    let header = fs::read_to_string(folder.join("../../include/simd_json.h")).unwrap();
+    let named = |line: &str| {
+        let (name, number) = line.trim().strip_prefix("SIMD_JSON_")?.split_once(" = ")?;
+        let end = number.find(|c: char| !c.is_ascii_digit()).unwrap_or(number.len());
+        let words = name.split('_').map(|word| word[..1].to_string() + &word[1..].to_lowercase());
+        Some((words.collect::<String>(), number[..end].parse::<usize>().unwrap()))
+    };
+    let numbered: Vec<_> = header.lines().filter_map(named).collect();
+    let errors = [
+        OutOfMemory, InputTooLarge, InvalidUtf8, Syntax, Eof, InternalError, ExpectedArrayContent, ExpectedObjectContent,
+        ExpectedObjectKey, ExpectedObjectColon, TrailingData, DepthLimitExceeded, ExpectedTrue, ExpectedFalse,
+        ExpectedNull, InvalidNumber, InvalidEscape, InvalidUnicodeCodepoint,
+    ];
+    assert_eq!(numbered[1..19], errors.map(|error| (error.to_string(), error as usize)));
+    assert_eq!(numbered[0], ("Ok".to_string(), 0));
+    assert_eq!(numbered[19], ("TooLittleRoom".to_string(), 19));
+    assert!(header.contains("\n#define SIMD_JSON_REASON_MAX 64\n"));
+    let kinds = [
+        ValueType::Null, ValueType::Bool, ValueType::I64, ValueType::U64, ValueType::I128, ValueType::U128,
+        ValueType::Decimal, ValueType::String, ValueType::Array, ValueType::Object,
+    ];
+    assert_eq!(numbered[22..32], kinds.map(|kind| (format!("{kind:?}"), kind as usize)));
+    let layouts = ["Compact", "Pretty"].map(String::from);
+    assert_eq!(numbered[32..34], [(layouts[0].clone(), 0), (layouts[1].clone(), 1)]);
+}
+
+#[test]
+fn wide_integers() {
+    let texts = [
+        "18446744073709551616", "170141183460469231731687303715884105727", "170141183460469231731687303715884105728",
+        "340282366920938463463374607431768211455", "-9223372036854775809", "-170141183460469231731687303715884105728",
+    ];
+    let tape = to_owned_tape(format!("[{}]", texts.join(","))).unwrap();
+    for (text, value) in texts.iter().zip(tape.as_value().as_array().unwrap()) {
+        assert_eq!((value.as_i128(), value.as_u128()), (text.parse().ok(), text.parse().ok()), "{text}");
+        assert_eq!((value.as_i64(), value.as_u64(), value.as_f64()), (None, None, text.parse().ok()), "{text}");
+        assert_eq!(format!("{value} {value:#}"), format!("{text} {text}"));
+    }
 }
 
 #[test]
@@ -338,15 +383,15 @@ fn texts_stay_in_their_inputs() {
 #[test]
 fn buffers_by_default() {
     let mut buffers = Buffers::default();
-    assert_eq!(buffers.index(b"[\"").unwrap_err().error(), ErrorType::Syntax);
-    let mut index = buffers.index(br#"{"a":[1,"\u00e9"],"b":[1,,2]"#).unwrap();
-    assert!(index.find("/a/1").unwrap().unwrap() == "é");
-    assert!(index.find("").is_err());
-    assert_eq!(index.find("/b").unwrap_err().index(), 3);
-    assert_eq!(index.find("/a").unwrap().unwrap().as_array().unwrap().len(), 2);
-    assert!(index.find("/c").unwrap().is_none() && index.find("a").unwrap().is_none());
+    assert_eq!(buffers.scan(b"[\"").unwrap_err().error(), ErrorType::Syntax);
+    let mut index = buffers.scan(br#"{"a":[1,"\u00e9"],"b":[1,,2]"#).unwrap();
+    assert!(index.pointer("/a/1").unwrap().unwrap() == "é");
+    assert!(index.pointer("").is_err());
+    assert_eq!(index.pointer("/b").unwrap_err().index(), 3);
+    assert_eq!(index.pointer("/a").unwrap().unwrap().as_array().unwrap().len(), 2);
+    assert!(index.pointer("/c").unwrap().is_none() && index.pointer("a").unwrap().is_none());
     let long = format!("[[{}]]", "1,".repeat(100_000) + "2");
-    assert_eq!(buffers.index(long.as_bytes()).unwrap().find("/0/100000").unwrap().unwrap().as_u64(), Some(2));
+    assert_eq!(buffers.scan(long.as_bytes()).unwrap().pointer("/0/100000").unwrap().unwrap().as_u64(), Some(2));
     assert_eq!(Buffers::default().parse(&mut b"[3]".to_vec()).unwrap().node_count(), 2);
     assert_eq!(Buffers::default().check(&[b"[".repeat(1025), b"]".repeat(1025)].concat()).unwrap_err().index(), 1024);
     assert_eq!(check(&[b"[".repeat(1025), b"]".repeat(1025)].concat()).unwrap_err().index(), 1024);

@@ -274,12 +274,12 @@ fn errors_have_places() {
 #[test]
 fn values_are_found_and_read() {
     let mut buffers = Buffers::default();
-    let mut index = buffers.index(br#"{"a":[{"id":1,"name":"b"}],"wrong":[1,,2]}"#).unwrap();
-    assert_eq!(index.get::<Denying>("/a/0").unwrap(), Some(Denying { id: 1, name: Some("b".into()) }));
-    assert_eq!(index.get::<&str>("/a/0/name").unwrap(), Some("b"));
-    assert_eq!(index.get::<u8>("/a/1").unwrap(), None);
-    assert_eq!(index.get::<u8>("/a").unwrap_err().to_string(), "invalid type: sequence, expected u8");
-    assert_eq!(index.get::<u8>("/wrong").unwrap_err().parse_error().unwrap().index(), 3);
+    let mut index = buffers.scan(br#"{"a":[{"id":1,"name":"b"}],"wrong":[1,,2]}"#).unwrap();
+    assert_eq!(index.read::<Denying>("/a/0").unwrap(), Some(Denying { id: 1, name: Some("b".into()) }));
+    assert_eq!(index.read::<&str>("/a/0/name").unwrap(), Some("b"));
+    assert_eq!(index.read::<u8>("/a/1").unwrap(), None);
+    assert_eq!(index.read::<u8>("/a").unwrap_err().to_string(), "invalid type: sequence, expected u8");
+    assert_eq!(index.read::<u8>("/wrong").unwrap_err().parse_error().unwrap().index(), 3);
 }
 
 #[test]
@@ -287,8 +287,8 @@ fn both_errors_are_returned_as_one() {
     fn second(input: &[u8]) -> Result<Option<String>, ReadError> {
         let mut buffers = Buffers::with_max_depth(2)?;
         buffers.check(input)?;
-        let mut index = buffers.index(input)?;
-        Ok(if index.find("/0")?.is_some() { index.get("/1")? } else { None })
+        let mut index = buffers.scan(input)?;
+        Ok(if index.pointer("/0")?.is_some() { index.read("/1")? } else { None })
     }
     assert_eq!(second(br#"[0,"a"]"#).unwrap(), Some("a".into()));
     let error = second(b"[0,[[]]]").unwrap_err();

@@ -1,15 +1,13 @@
 //! Why an input could not be read as a type, and where.
-use crate::error::{Error, ErrorType, Location};
-use crate::ffi::{indexes, located, Node};
-use crate::value::Value;
+use crate::error::{Error, Location};
+use crate::ffi::{located, node_position, Nodes};
+use crate::value::ValueType;
 use std::fmt;
 
 /// Why an input could not be read as a type: it is no document, or the document does not fit.
 ///
 /// It prints as `/users/0/id: invalid type: string "x", expected u64 at line 2 column 9`.
-pub struct ReadError {
-    inner: Box<Inner>,
-}
+pub struct ReadError(Box<Inner>);
 
 #[derive(Debug)]
 struct Inner {
@@ -25,24 +23,25 @@ struct Inner {
 impl ReadError {
     /// The first error of the input, if it is no document.
     pub fn parse_error(&self) -> Option<Error> {
-        self.inner.parse
+        self.0.parse
     }
 
-    /// The JSON Pointer (RFC 6901) to the value that does not fit, as `/users/0/id`: from the document on, or from the value that
-    /// was read. Empty of an input that is no document. Of a key it is the path of its object.
+    /// The JSON Pointer (RFC 6901) to the value that does not fit, as `/users/0/id`: from the document on, or from the
+    /// value that was read. Empty of an input that is no document. Of a key it is the path of its object.
     pub fn path(&self) -> &str {
-        &self.inner.path
+        &self.0.path
     }
 
-    /// The reason, as "expected a value, found `]`", or in the words of `serde`. Where there is no location it is the kind of the
-    /// error of an input, with its index.
+    /// The reason, as "expected a value, found `]`", or in the words of `serde`. Where there is no location it is the
+    /// kind of the error of an input, with its index.
     pub fn reason(&self) -> &str {
-        &self.inner.reason
+        &self.0.reason
     }
 
-    /// Where it is in the input. `None` where a value of a tape was read, the input was overwritten, or an allocation failed.
+    /// Where it is in the input. `None` if a value of a tape was read, the input was overwritten, or an allocation
+    /// failed.
     pub fn location(&self) -> Option<&Location> {
-        self.inner.location.as_ref()
+        self.0.location.as_ref()
     }
 
     /// The line, by line feeds, from 1; 0 where there is no location.
@@ -56,8 +55,7 @@ impl ReadError {
     }
 
     fn new(reason: String) -> ReadError {
-        let inner = Inner { parse: None, left: None, path: String::new(), location: None, reason };
-        ReadError { inner: Box::new(inner) }
+        ReadError(Box::new(Inner { parse: None, left: None, path: String::new(), location: None, reason }))
     }
 
     #[cold]
@@ -65,71 +63,58 @@ impl ReadError {
         let location = input.and_then(|input| located(input, &error).ok());
         let reason = location.as_ref().map_or_else(|| error.to_string(), |at| at.reason.clone());
         let mut read = ReadError::new(reason);
-        (read.inner.parse, read.inner.location) = (Some(error), location);
+        (read.0.parse, read.0.location) = (Some(error), location);
         read
     }
 
     /// The same, at a node unless it is at one beneath.
     #[cold]
     pub(super) fn at(mut self, left: usize) -> ReadError {
-        self.inner.left.get_or_insert(left);
+        self.0.left.get_or_insert(left);
         self
     }
 
     /// The same with its path from a value on, of which all nodes were there at first.
     #[cold]
-    pub(super) fn beneath(mut self, value: Value<'_>) -> ReadError {
-        if let Some(left) = self.inner.left.take() {
-            self.inner.path = path_to(value, value.count() - left);
+    pub(super) fn beneath(mut self, value: Nodes<'_, '_>) -> ReadError {
+        if let Some(left) = self.0.left.take() {
+            self.0.path = path_to(value, value.nodes.len() - left);
         }
         self
     }
 
     /// The same with its path, and its place in the input of which this is the value.
     #[cold]
-    pub(super) fn in_input(mut self, value: Value<'_>, input: &[u8]) -> ReadError {
-        let node = value.count() - self.inner.left.unwrap_or(value.count());
-        let reason = self.inner.reason.clone();
-        self.inner.location = place_of(node, input).map(|at| Location { reason, ..at });
+    pub(super) fn in_input(mut self, value: Nodes<'_, '_>, input: &[u8]) -> ReadError {
+        let node = value.nodes.len() - self.0.left.unwrap_or(value.nodes.len());
+        let reason = self.0.reason.clone();
+        self.0.location = node_position(input, node).map(|position| Location { position, reason });
         self.beneath(value)
     }
 }
 
-// A node begins at each structural index but those of the characters between nodes, and after them.
-fn place_of(node: usize, input: &[u8]) -> Option<Location> {
-    let indexes = indexes(input)?;
-    let begins = |at: &usize| !matches!(input[*at], b':' | b',' | b']' | b'}');
-    let index = indexes.iter().map(|at| *at as usize).filter(begins).nth(node)?;
-    let token = Error { kind: ErrorType::InvalidNumber, index, character: Some(char::from(input[index])) };
-    located(input, &token).ok()
-}
-
 // The JSON Pointer to a node beneath a value; of a key that of its object.
-fn path_to(value: Value<'_>, node: usize) -> String {
-    let (nodes, _) = value.parts();
+fn path_to(value: Nodes<'_, '_>, node: usize) -> String {
     let (mut path, mut container) = (String::new(), 0);
     while container < node {
-        let is_object = nodes[container].kind == Node::OBJECT;
-        let (mut at, mut read) = (container + 1, 0);
-        if is_object && at == node {
-            break;
+        let is_object = value.nodes[container].kind() == ValueType::Object;
+        // the key, or else the value, of the member that has the node, and that value
+        let (mut member, mut number) = (container + 1, 0);
+        container = member + usize::from(is_object);
+        while container + value.nodes[container].count() <= node {
+            member = container + value.nodes[container].count();
+            container = member + usize::from(is_object);
+            number += 1;
         }
-        let mut member = at + usize::from(is_object);
-        while member + value.at(member).count() <= node {
-            at = member + value.at(member).count();
-            if is_object && at == node {
-                return path;
-            }
-            member = at + usize::from(is_object);
-            read += 1;
+        if container > node {
+            break;
         }
         path.push('/');
         if is_object {
-            path.push_str(&value.at(at).literal().replace('~', "~0").replace('/', "~1"));
+            path.push_str(&value.text(&value.nodes[member]).replace('~', "~0").replace('/', "~1"));
         } else {
-            path.push_str(&read.to_string());
+            path.push_str(&number.to_string());
         }
-        container = member;
     }
     path
 }
@@ -155,7 +140,7 @@ impl fmt::Display for ReadError {
         }
         f.write_str(self.reason())?;
         match self.location() {
-            Some(at) => write!(f, " at line {} column {}", at.line, at.column),
+            Some(at) => write!(f, " at line {} column {}", at.line(), at.column()),
             None => Ok(()),
         }
     }

@@ -7,10 +7,9 @@ pub use error::ReadError;
 
 use crate::ffi::{Buffers, Index};
 use crate::value::Value;
-use reader::Reader;
 use serde::de::{Deserialize, DeserializeOwned, Deserializer, Visitor};
 
-/// Reads a document as a type, which owns what it holds. The input is left as it is, since a copy is parsed.
+/// Reads a document as a type, which may borrow nothing. The input is left as it is, since a copy is parsed.
 ///
 /// ```
 /// #[derive(serde::Deserialize)]
@@ -24,12 +23,6 @@ use serde::de::{Deserialize, DeserializeOwned, Deserializer, Visitor};
 /// let error = simd_json_proved::from_slice::<Line>(br#"{"level":"info","status":"no"}"#).err().unwrap();
 /// assert_eq!(error.to_string(), "/status: invalid type: string \"no\", expected u16 at line 1 column 26");
 /// # Ok::<(), simd_json_proved::ReadError>(())
-/// ```
-///
-/// Nothing may be borrowed, so this does not compile:
-///
-/// ```compile_fail
-/// let text: &str = simd_json_proved::from_slice(br#""a""#).unwrap();
 /// ```
 ///
 /// # Errors
@@ -48,8 +41,8 @@ pub fn from_str<T: DeserializeOwned>(input: &str) -> Result<T, ReadError> {
     from_slice(input.as_bytes())
 }
 
-/// Reads a document as a type, in memory that is kept for the next. The type may borrow strings from the copy there: a `&str` is
-/// borrowed with its escapes decoded. Without that copy it is [`from_slice_mut_with`].
+/// Reads a document as a type, in memory that is kept for the next. The type may borrow strings from the copy there: a
+/// `&str` is borrowed with its escapes decoded. Without that copy it is [`from_slice_mut_with`].
 ///
 /// ```
 /// use simd_json_proved::{from_slice_with, Buffers};
@@ -68,27 +61,20 @@ pub fn from_str<T: DeserializeOwned>(input: &str) -> Result<T, ReadError> {
 /// # Ok::<(), simd_json_proved::ReadError>(())
 /// ```
 ///
-/// What is borrowed ends with the next call, so this does not compile:
-///
-/// ```compile_fail,E0499
-/// let mut buffers = simd_json_proved::Buffers::default();
-/// let first: &str = simd_json_proved::from_slice_with(&mut buffers, br#""a""#).unwrap();
-/// let second: &str = simd_json_proved::from_slice_with(&mut buffers, br#""b""#).unwrap();
-/// println!("{first}");
-/// ```
+/// What is borrowed ends with the next call.
 ///
 /// # Errors
 ///
 /// As those of [`from_slice`].
 pub fn from_slice_with<'b, T: Deserialize<'b>>(buffers: &'b mut Buffers, input: &[u8]) -> Result<T, ReadError> {
     match buffers.value(input) {
-        Ok(value) => T::deserialize(&mut Reader::of(value)).map_err(|error| error.in_input(value, input)),
+        Ok(Value(nodes)) => T::deserialize(&mut { nodes }).map_err(|error| error.in_input(nodes, input)),
         Err(error) => Err(ReadError::of_parse(error, Some(input))),
     }
 }
 
-/// Reads a document as a type, without a copy. The input is overwritten, and the type may borrow strings from it, each with its
-/// escapes decoded.
+/// Reads a document as a type, without a copy. The input is overwritten, and the type may borrow strings from it, each
+/// with its escapes decoded.
 ///
 /// ```
 /// #[derive(serde::Deserialize)]
@@ -103,21 +89,7 @@ pub fn from_slice_with<'b, T: Deserialize<'b>>(buffers: &'b mut Buffers, input: 
 /// # Ok::<(), simd_json_proved::ReadError>(())
 /// ```
 ///
-/// While something is borrowed from it the input can't be changed or dropped, so these do not compile:
-///
-/// ```compile_fail,E0506
-/// let mut input = *br#""a""#;
-/// let text: &str = simd_json_proved::from_slice_mut(&mut input).unwrap();
-/// input[1] = b'b';
-/// println!("{text}");
-/// ```
-///
-/// ```compile_fail,E0505
-/// let mut input = br#""a""#.to_vec();
-/// let text: &str = simd_json_proved::from_slice_mut(&mut input).unwrap();
-/// drop(input);
-/// println!("{text}");
-/// ```
+/// While something is borrowed from it the input can't be changed or dropped.
 ///
 /// # Errors
 ///
@@ -146,74 +118,52 @@ pub fn from_slice_mut_with<'de, T: Deserialize<'de>>(
     buffers: &mut Buffers,
     input: &'de mut [u8],
 ) -> Result<T, ReadError> {
-    let (nodes, texts) = buffers.nodes_in(input)?;
-    T::deserialize(&mut Reader::new(nodes, texts)).map_err(|error| error.beneath(Value::new(nodes, texts)))
+    let nodes = buffers.parser.nodes(input)?;
+    T::deserialize(&mut { nodes }).map_err(|error| error.beneath(nodes))
 }
 
 impl Index<'_> {
-    /// The value that a JSON Pointer names, as [`Index::find`] has it, read as a type.
+    /// The value that a JSON Pointer names, as [`Index::pointer`] has it, read as a type.
     ///
     /// # Errors
     ///
-    /// Those of [`Index::find`]; or how the value does not fit the type, with the path from it on.
-    pub fn get<'i, T: Deserialize<'i>>(&'i mut self, pointer: &str) -> Result<Option<T>, ReadError> {
-        self.find(pointer)?.map(T::deserialize).transpose()
+    /// Those of [`Index::pointer`]; or how the value does not fit the type, with the path from it on.
+    pub fn read<'i, T: Deserialize<'i>>(&'i mut self, pointer: &str) -> Result<Option<T>, ReadError> {
+        self.pointer(pointer)?.map(T::deserialize).transpose()
     }
 }
 
-impl<'de> Value<'de> {
-    fn read<T>(self, read: impl FnOnce(&mut Reader<'de, 'de>) -> Result<T, ReadError>) -> Result<T, ReadError> {
-        read(&mut Reader::of(self)).map_err(|error| error.beneath(self))
-    }
-}
-
-macro_rules! by_reader {
+macro_rules! by_nodes {
     ($($method:ident($($arg:ident: $type:ty),*);)*) => {$(
+        #[inline]
         fn $method<V: Visitor<'de>>(self, $($arg: $type,)* visitor: V) -> Result<V::Value, ReadError> {
-            self.read(|reader| reader.$method($($arg,)* visitor))
+            (&mut { self.0 }).$method($($arg,)* visitor).map_err(|error| error.beneath(self.0))
         }
     )*};
 }
 
 /// A type is read from a value by `T::deserialize(value)`.
 ///
-/// An integer beyond 64 bits is an `i128` or a `u128`, or the nearest float where that is asked for; `-0` is the integer 0.
-/// A type that nests without end takes stack for each container that is open, of which there are at most as many as
-/// the [`Buffers`] allow.
+/// An integer beyond 64 bits is an `i128` or a `u128`, or the nearest float where that is asked for; `-0` is the
+/// integer 0. A type that nests without end takes stack for each container that is open, of which there are at most as
+/// many as the [`Buffers`] allow.
 impl<'de> Deserializer<'de> for Value<'de> {
     type Error = ReadError;
 
-    by_reader! {
+    by_nodes! {
         deserialize_any();
-        deserialize_bool();
-        deserialize_i8();
-        deserialize_i16();
-        deserialize_i32();
-        deserialize_i64();
-        deserialize_i128();
-        deserialize_u8();
-        deserialize_u16();
-        deserialize_u32();
-        deserialize_u64();
-        deserialize_u128();
         deserialize_f32();
         deserialize_f64();
-        deserialize_char();
-        deserialize_str();
-        deserialize_string();
         deserialize_bytes();
         deserialize_byte_buf();
         deserialize_option();
-        deserialize_unit();
-        deserialize_unit_struct(name: &'static str);
         deserialize_newtype_struct(name: &'static str);
-        deserialize_seq();
-        deserialize_tuple(len: usize);
-        deserialize_tuple_struct(name: &'static str, len: usize);
-        deserialize_map();
-        deserialize_struct(name: &'static str, fields: &'static [&'static str]);
         deserialize_enum(name: &'static str, variants: &'static [&'static str]);
-        deserialize_identifier();
         deserialize_ignored_any();
+    }
+
+    serde::forward_to_deserialize_any! {
+        bool i8 i16 i32 i64 i128 u8 u16 u32 u64 u128 char str string unit unit_struct seq tuple tuple_struct map struct
+        identifier
     }
 }
