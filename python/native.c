@@ -1,7 +1,7 @@
 /* The module simd_json._native: values of Python from the tape of libsimd_json.
  *
- * Nothing here is proved; what it calls of the library is. It uses the stable ABI of Python 3.10 alone, and no recursion: open
- * containers are kept in an array, of which the parse's depth limit bounds the length. */
+ * Nothing here is proved; what it calls of the library is. It uses the stable ABI of Python 3.10 alone, and no
+ * recursion: open containers are kept in an array, of which the parse's depth limit bounds the length. */
 #define Py_LIMITED_API 0x030a0000
 #define PY_SSIZE_T_CLEAN
 #include <Python.h>
@@ -10,8 +10,8 @@
 #include <stdlib.h>
 #include <string.h>
 
-/* Memory that is kept from one input to the next. While code of users runs (`hooks`) it is in use, and a call which that code
- * makes has memory of its own. */
+/* Memory that is kept from one input to the next. While code of users runs (`hooks`) it is in use, and a call which
+ * that code makes has memory of its own. */
 typedef struct {
     simd_json_parser parser;
     size_t max_depth;
@@ -23,8 +23,8 @@ typedef struct {
     int in_use;
 } memory;
 
-/* A container, and how many of its members are read. Where there are hooks it is made when they are read: `begun` is how many
- * values were held before it. */
+/* A container, and how many of its members are read. Where there are hooks it is made when they are read: `begun` is
+ * how many values were held before it. */
 struct open {
     union {
         PyObject *container;
@@ -34,7 +34,7 @@ struct open {
     int is_object;
 };
 
-/* Keys that were read before, by a hash of their ends: most keys of a document come many times, and mostly in the same order. */
+/* Keys that were read before, by a hash of their ends: most come many times, and in the same order. */
 enum { CACHED_BITS = 10, CACHED_LEN = 64 };
 struct cached {
     PyObject *key;
@@ -58,19 +58,33 @@ static void release(memory *m) {
     memset(m, 0, sizeof *m);
 }
 
-/* Makes an array at least so long. Its contents are lost. */
+/* Makes an array at least so long. */
 static int grow(void *array, size_t *cap, size_t needed, size_t size) {
     if (needed <= *cap)
         return 1;
-    void *bytes = needed <= SIZE_MAX / size ? malloc(needed * size) : NULL;
+    void *bytes = needed <= SIZE_MAX / size ? realloc(*(void **)array, needed * size) : NULL;
     if (!bytes) {
         PyErr_NoMemory();
         return 0;
     }
-    free(*(void **)array);
     *(void **)array = bytes;
     *cap = needed;
     return 1;
+}
+
+/* The memory for a call: what is kept, or while that is in use the call's own. */
+static memory *take(memory *kept, memory *own) {
+    memory *m = kept;
+    if (kept->in_use)
+        m = memset(own, 0, sizeof *own);
+    m->in_use = 1;
+    return m;
+}
+
+static void give_back(memory *m, const memory *own) {
+    m->in_use = 0;
+    if (m == own)
+        release(m);
 }
 
 /* An input: its bytes, and a reference to be released after their use, if that is not NULL. */
@@ -138,33 +152,23 @@ static size_t character_at(const text *of, size_t index) {
     return index < len ? begun - 1 : begun;
 }
 
-/* What simd_json._error returns: the reason in words, the input, the index there, the kind by its
- * name, line and column. */
-static PyObject *error_of(int32_t status, const simd_json_place *place, PyObject *data,
-                          const text *of) {
+/* Raises the error of an input, by simd_json._error: of the reason in words, the input, the index there, the kind by
+ * its name, line and column. */
+static void *reject(int32_t status, const simd_json_place *place, PyObject *data, const text *of) {
     char name[SIMD_JSON_NAME_MAX], words[SIMD_JSON_REASON_MAX];
     size_t name_len = simd_json_status_name(status, name, sizeof name), words_len;
     simd_json_position at;
-    if (simd_json_location(of->bytes, of->bytes ? (size_t)of->len : 0, status, place, &at, words,
-                           sizeof words, &words_len) != SIMD_JSON_OK)
+    if (status == SIMD_JSON_OUT_OF_MEMORY ||
+        simd_json_location(of->bytes, of->bytes ? (size_t)of->len : 0, status, place, &at, words, sizeof words,
+                           &words_len) != SIMD_JSON_OK)
         return PyErr_NoMemory();
     size_t index = PyUnicode_Check(data) ? character_at(of, at.byte) : at.byte;
-    return PyObject_CallFunction(to_error, "s#Ons#nn", words, (Py_ssize_t)words_len, data,
-                                 (Py_ssize_t)index, name, (Py_ssize_t)name_len, (Py_ssize_t)at.line,
-                                 (Py_ssize_t)at.column);
-}
-
-/* Raises the error of an input. */
-static void *reject(int32_t status, const simd_json_place *place, PyObject *data) {
-    if (status == SIMD_JSON_OUT_OF_MEMORY)
-        return PyErr_NoMemory();
-    text of;
-    PyObject *error = text_of(data, &of) ? error_of(status, place, data, &of) : NULL;
-    Py_XDECREF(of.owned);
-    if (error) {
+    PyObject *error = PyObject_CallFunction(to_error, "s#Ons#nn", words, (Py_ssize_t)words_len, data,
+                                            (Py_ssize_t)index, name, (Py_ssize_t)name_len, (Py_ssize_t)at.line,
+                                            (Py_ssize_t)at.column);
+    if (error)
         PyErr_SetObject((PyObject *)Py_TYPE(error), error);
-        Py_DECREF(error);
-    }
+    Py_XDECREF(error);
     return NULL;
 }
 
@@ -172,15 +176,8 @@ static void *reject(int32_t status, const simd_json_place *place, PyObject *data
 static int is_taken(PyObject *data, const text *of) {
     static const simd_json_place whole = {0, SIMD_JSON_NO_CHARACTER};
     if (of->len > UINT32_MAX)
-        reject(SIMD_JSON_INPUT_TOO_LARGE, &whole, data);
+        reject(SIMD_JSON_INPUT_TOO_LARGE, &whole, data, of);
     return of->len <= UINT32_MAX;
-}
-
-static int copy(memory *m, const text *of) {
-    if (!grow(&m->input, &m->input_cap, (size_t)of->len + 1, 1))
-        return 0;
-    memcpy(m->input, of->bytes, (size_t)of->len);
-    return 1;
 }
 
 /* Opens the parser for a depth limit, and an input of such a length. */
@@ -200,28 +197,41 @@ static int prepare(memory *m, size_t max_depth, Py_ssize_t len) {
 /* While a longer input is read, other threads run. */
 enum { LONG = 1 << 16 };
 
-/* Parses a copy of the input, since that is overwritten, into the document. While `in_use` neither the parser nor the copy, in
- * which the texts are, is used for another input; what becomes of the input itself does not matter. */
-static int parse(memory *m, PyObject *data, size_t max_depth) {
-    simd_json_place place;
+/* What the library does with an input that it leaves as it is. */
+typedef int32_t reading(simd_json_parser *, const void *, size_t, simd_json_place *);
+
+/* Passes the input to `call`; without one to the parse, which makes the document, and overwrites a copy. While `in_use`
+ * neither the parser nor the copy, in which the document's texts are, is used for another input.
+ *
+ * While other threads run the input must not change. Bytes and str never do; the bytes of a view are a copy already.
+ * A bytearray is copied: to hold its buffer, for which Python 3.10's stable ABI has no call, would keep its length
+ * alone. */
+static int read_input(memory *m, PyObject *data, size_t max_depth, reading *call) {
+    const int is_copied = !call || PyByteArray_Check(data);
     text of;
-    int is_copied = text_of(data, &of) && is_taken(data, &of) && copy(m, &of);
-    Py_XDECREF(of.owned);
-    if (!is_copied || !prepare(m, max_depth, of.len))
-        return 0;
-    PyThreadState *others = of.len > LONG ? PyEval_SaveThread() : NULL;
-    int32_t status = simd_json_parser_parse(&m->parser, m->input, (size_t)of.len, &m->document, &place);
-    if (others)
-        PyEval_RestoreThread(others);
-    if (status != SIMD_JSON_OK) {
-        reject(status, &place, data);
-        return 0;
+    int is_read = text_of(data, &of) && is_taken(data, &of) && prepare(m, max_depth, of.len) &&
+                  (!is_copied || grow(&m->input, &m->input_cap, (size_t)of.len + 1, 1));
+    if (is_read) {
+        const size_t len = (size_t)of.len;
+        char *bytes = is_copied ? memcpy(m->input, of.bytes, len) : of.bytes;
+        if (is_copied)
+            Py_CLEAR(of.owned);
+        simd_json_place place;
+        PyThreadState *others = len > LONG ? PyEval_SaveThread() : NULL;
+        int32_t status = call ? call(&m->parser, bytes, len, &place)
+                              : simd_json_parser_parse(&m->parser, bytes, len, &m->document, &place);
+        if (others)
+            PyEval_RestoreThread(others);
+        is_read = status == SIMD_JSON_OK;
+        if (!is_read && (!is_copied || text_of(data, &of)))
+            reject(status, &place, data, &of);
     }
-    return 1;
+    Py_XDECREF(of.owned);
+    return is_read;
 }
 
-/* The first 8 bytes of a text, or all of a shorter one and zeros: a mask leaves them in little-endian order. Nothing at `end` or
- * behind it is read. */
+/* The first 8 bytes of a text, or all of a shorter one and zeros: a mask leaves them in little-endian order. Nothing at
+ * `end` or behind it is read. */
 static uint64_t first_of(const char *bytes, size_t len, const char *end) {
     uint64_t word = 0;
     if (end - bytes < 8) {
@@ -267,8 +277,8 @@ static size_t decode(wchar_t *characters, const unsigned char *at, size_t len) {
     return count;
 }
 
-/* Of short texts Python's decoder of UTF-8 takes bytes that are not aligned one by one, and those that are not ASCII it judges
- * again and writes to memory that it may have to grow. For long texts it is the faster way. */
+/* Of short texts Python's decoder of UTF-8 takes bytes that are not aligned one by one, and those that are not ASCII it
+ * judges again and writes to memory that it may have to grow. For long texts it is the faster way. */
 static PyObject *to_string(const memory *m, const simd_json_node *node) {
     enum { SHORT = 512 };
     const char *bytes = m->document.text + node->value, *end = m->document.text + m->document.text_len;
@@ -300,8 +310,8 @@ static int fill(struct cached *at, const memory *m, const simd_json_node *node, 
     return 1;
 }
 
-/* Where it is not what came after the latest key before, a key has two places. The hash is multiplicative (D. E. Knuth, The Art of
- * Computer Programming, section 6.4). */
+/* Where it is not what came after the latest key before, a key has two places. The hash is multiplicative (D. E. Knuth,
+ * The Art of Computer Programming, section 6.4). */
 static PyObject *to_key(const memory *m, const simd_json_node *node) {
     const char *bytes = m->document.text + node->value;
     size_t len = node->len;
@@ -333,67 +343,10 @@ static PyObject *to_wide(const memory *m, const simd_json_node *node) {
     return PyLong_FromString(literal, NULL, 10);
 }
 
-/* Of 1 / 5^k the first 64 bits, of which the first is 1, and how many bits 5^k has. */
-enum { MOST_BEHIND = 18 };
-static struct {
-    uint64_t first;
-    int bits;
-} inverses[MOST_BEHIND + 1];
-
-static void find_inverses(void) {
-    uint64_t five = 1;
-    for (int k = 1; k <= MOST_BEHIND; k++) {
-        five *= 5;
-        inverses[k].bits = 64 - __builtin_clzll(five);
-        inverses[k].first = (uint64_t)(((unsigned __int128)1 << (63 + inverses[k].bits)) / five);
-    }
-}
-
-/* The nearest float of a literal of at most 19 digits without an exponent, so with a point, where one rounding finds it. */
-static int read_short(const char *literal, size_t len, double *number) {
-    const int is_negative = literal[0] == '-';
-    const char *at = literal + is_negative, *end = literal + len, *point = end;
-    uint64_t digits = 0;
-    int64_t power = 1;
-    if (end - at > 20)
-        return 0;
-    for (; at < end; at++) {
-        if (*at >= '0' && *at <= '9') {
-            digits = 10 * digits + (uint64_t)(*at - '0');
-            power *= 10;
-        } else if (*at == '.') {
-            point = at;
-            power = 1;
-        } else {
-            return 0;
-        }
-    }
-    if (digits <= UINT64_C(1) << 53) {
-        /* Digits and power are floats, and their quotient is rounded (W. D. Clinger, "How to Read Floating Point Numbers
-         * Accurately", PLDI 1990). */
-        *number = (double)(int64_t)digits / (double)power;
-    } else {
-        /* Where the number is q 2^e, this is less than 2 below q. It has 63 or 64 bits, and a float 53: so it is known to which of
-         * two floats q is nearer, but not close to the middle between them, which is a multiple of 512. */
-        const int k = (int)(end - point) - 1, shift = __builtin_clzll(digits);
-        const uint64_t q = (uint64_t)((unsigned __int128)(digits << shift) * inverses[k].first >> 64);
-        if ((q + 1) % 512 < 3)
-            return 0;
-        const uint64_t bits = (uint64_t)(1023 + 2 - inverses[k].bits - shift - k) << 52;
-        double scale;
-        memcpy(&scale, &bits, sizeof scale);
-        *number = (double)(int64_t)(q >> 1) * scale;
-    }
-    if (is_negative)
-        *number = -*number;
-    return 1;
-}
-
 /* A number with a fraction or an exponent: the nearest float. */
 static PyObject *to_float(const memory *m, const simd_json_node *node) {
     double number = 0;
-    if (!read_short(m->document.text + node->value, node->len, &number))
-        simd_json_double(m->document.text + node->value, node->len, &number);
+    simd_json_double(m->document.text + node->value, node->len, &number);
     return PyFloat_FromDouble(number);
 }
 
@@ -422,18 +375,6 @@ static PyObject *to_value(const memory *m, const simd_json_node *node) {
     }
 }
 
-static int grow_open(memory *m) {
-    size_t cap = 2 * m->open_cap + 16;
-    struct open *more = realloc(m->open, cap * sizeof *more);
-    if (!more) {
-        PyErr_NoMemory();
-        return 0;
-    }
-    m->open = more;
-    m->open_cap = cap;
-    return 1;
-}
-
 /* The value of all nodes. A container is put into the one around it as soon as it is made, so an
  * error frees the root alone. No code of users runs before it returns. */
 static PyObject *build(memory *m) {
@@ -460,7 +401,7 @@ static PyObject *build(memory *m) {
             goto failed;
         in.read++;
         if (node->kind >= SIMD_JSON_ARRAY && node->len > 0) {
-            if (depth == m->open_cap && !grow_open(m))
+            if (depth == m->open_cap && !grow(&m->open, &m->open_cap, 2 * depth + 16, sizeof *m->open))
                 goto failed;
             m->open[depth++] = in;
             in = (struct open){{value}, 0, node->len, node->kind == SIMD_JSON_OBJECT};
@@ -479,29 +420,19 @@ enum { PARSE_FLOAT, PARSE_INT, OBJECT_HOOK, OBJECT_PAIRS_HOOK, HOOKS };
 
 /* The values that are whole, of containers that are not.
  *
- * Code of users sees every container by the gc module, in each thread. So a container is made only when all that is in it is
- * whole, and what is in it is held until the container is whole too: no object of theirs dies before. */
+ * Code of users sees every container by the gc module, in each thread. So a container is made only when all that is
+ * in it is whole, and what is in it is held until the container is whole too: no object of theirs dies before. */
 typedef struct {
     PyObject **values;
     size_t len, cap;
 } held;
 
 static int hold(held *of, PyObject *value) {
-    if (!value)
-        return 0;
-    if (of->len == of->cap) {
-        size_t cap = 2 * of->cap + 64;
-        PyObject **more = realloc(of->values, cap * sizeof *more);
-        if (!more) {
-            Py_DECREF(value);
-            PyErr_NoMemory();
-            return 0;
-        }
-        of->values = more;
-        of->cap = cap;
-    }
-    of->values[of->len++] = value;
-    return 1;
+    if (value && of->len == of->cap && !grow(&of->values, &of->cap, 2 * of->cap + 64, sizeof *of->values))
+        Py_CLEAR(value);
+    if (value)
+        of->values[of->len++] = value;
+    return value != NULL;
 }
 
 /* Lets go of all that was held after so many. */
@@ -512,18 +443,13 @@ static void drop(held *of, size_t begun) {
 
 /* What `hook` makes of a number, whose literal it is called with, as `json` does. */
 static PyObject *call_with_literal(const memory *m, const simd_json_node *node, PyObject *hook) {
-    char digits[24];
-    int len;
-    switch (node->kind) {
-    case SIMD_JSON_I64: /* with a `-`, so 0 is `-0` */
-        len = snprintf(digits, sizeof digits, "-%llu", 0 - (unsigned long long)node->value);
-        return PyObject_CallFunction(hook, "s#", digits, (Py_ssize_t)len);
-    case SIMD_JSON_U64:
-        len = snprintf(digits, sizeof digits, "%llu", (unsigned long long)node->value);
-        return PyObject_CallFunction(hook, "s#", digits, (Py_ssize_t)len);
-    default:
+    if (node->kind > SIMD_JSON_U64)
         return PyObject_CallFunction(hook, "s#", m->document.text + node->value, (Py_ssize_t)node->len);
-    }
+    char digits[24];
+    const int has_minus = node->kind == SIMD_JSON_I64; /* so 0 is `-0` */
+    const unsigned long long magnitude = has_minus ? 0 - node->value : node->value;
+    const int len = snprintf(digits, sizeof digits, "-%llu", magnitude);
+    return PyObject_CallFunction(hook, "s#", digits + !has_minus, (Py_ssize_t)(len - !has_minus));
 }
 
 static PyObject *to_hooked_scalar(const memory *m, const simd_json_node *node, PyObject **hooks) {
@@ -587,7 +513,7 @@ static PyObject *build_hooked(memory *m, PyObject **hooks, held *of) {
         if (in.is_object && !hold(of, to_key(m, node++)))
             return NULL;
         if (node->kind >= SIMD_JSON_ARRAY) {
-            if (depth == m->open_cap && !grow_open(m))
+            if (depth == m->open_cap && !grow(&m->open, &m->open_cap, 2 * depth + 16, sizeof *m->open))
                 return NULL;
             m->open[depth++] = in;
             in = (struct open){{.begun = of->len}, 0, node->len, node->kind == SIMD_JSON_OBJECT};
@@ -612,21 +538,13 @@ typedef struct {
     Py_ssize_t max_depth;
 } arguments;
 
-static int are_right(arguments *given, PyObject *parse_constant) {
-    static PyTypeObject *const made[HOOKS] = {&PyFloat_Type, &PyLong_Type, NULL, NULL};
-    for (int i = 0; i < HOOKS; i++)
-        if (given->hooks[i] == Py_None || given->hooks[i] == (PyObject *)made[i])
-            given->hooks[i] = NULL;
-    if (parse_constant && parse_constant != Py_None) {
-        PyErr_SetString(PyExc_TypeError, "parse_constant is not called: NaN, Infinity and -Infinity are rejected (RFC 8259, section 6)");
-        return 0;
-    }
-    if (given->max_depth < 0)
+static int is_depth(Py_ssize_t max_depth) {
+    if (max_depth < 0)
         PyErr_SetString(PyExc_ValueError, "max_depth is negative");
-    return given->max_depth >= 0;
+    return max_depth >= 0;
 }
 
-/* The hooks are held while they may be called: what they came in, a dict of keywords or a parser, may lose them meanwhile. */
+/* The hooks are held while they may be called: what they came in, a dict of keywords or a parser, may lose them. */
 static void keep(const arguments *given) {
     for (int i = 0; i < HOOKS; i++)
         Py_XINCREF(given->hooks[i]);
@@ -637,8 +555,35 @@ static void let_go(const arguments *given) {
         Py_XDECREF(given->hooks[i]);
 }
 
-/* Without hooks nothing that is being made is garbage, so collections would look through it in vain. No code of users runs, and
- * no other thread, since the interpreter's lock is held: nobody sees that the collector is off. */
+/* Takes and keeps what is given by name. First comes what may call code of users, which is over before the others are
+ * taken. */
+static int take_named(arguments *given, PyObject *named, const char *format) {
+    static char *names[] = {"max_depth", "object_hook", "parse_float", "parse_int", "parse_constant",
+                            "object_pairs_hook", NULL};
+    static PyTypeObject *const made[HOOKS] = {&PyFloat_Type, &PyLong_Type, NULL, NULL};
+    if (!named)
+        return 1;
+    PyObject **hooks = given->hooks, *constant = NULL, *unnamed = PyTuple_New(0);
+    int is_taken = unnamed && PyArg_ParseTupleAndKeywords(
+                                  unnamed, named, format, names, &given->max_depth, &hooks[OBJECT_HOOK],
+                                  &hooks[PARSE_FLOAT], &hooks[PARSE_INT], &constant, &hooks[OBJECT_PAIRS_HOOK]);
+    Py_XDECREF(unnamed);
+    if (!is_taken || !is_depth(given->max_depth))
+        return 0;
+    if (constant && constant != Py_None) {
+        PyErr_SetString(PyExc_TypeError, "parse_constant is not called: NaN, Infinity and -Infinity are rejected"
+                                         " (RFC 8259, section 6)");
+        return 0;
+    }
+    for (int i = 0; i < HOOKS; i++)
+        if (hooks[i] == Py_None || hooks[i] == (PyObject *)made[i])
+            hooks[i] = NULL;
+    keep(given);
+    return 1;
+}
+
+/* Without hooks nothing that is being made is garbage, so collections would look through it in vain. No code of users
+ * runs, and no other thread, since the interpreter's lock is held: nobody sees that the collector is off. */
 static PyObject *build_any(memory *m, PyObject **hooks) {
     for (int i = 0; i < HOOKS; i++) {
         if (hooks[i]) {
@@ -657,77 +602,36 @@ static PyObject *build_any(memory *m, PyObject **hooks) {
 }
 
 static PyObject *loads_in(memory *kept, arguments *given) {
-    memory own = {0};
-    memory *m = kept->in_use ? &own : kept;
+    memory own, *m = take(kept, &own);
+    PyObject *value = NULL;
     /* A hook's call, which may be the hook itself: Python counts it once more, since it takes more
      * stack than what is only called. */
-    if (m == &own && Py_EnterRecursiveCall(" in a hook of simd_json"))
-        return NULL;
-    m->in_use = 1;
-    PyObject *value = parse(m, given->data, (size_t)given->max_depth) ? build_any(m, given->hooks) : NULL;
-    m->in_use = 0;
-    if (m == &own) {
-        release(m);
-        Py_LeaveRecursiveCall();
+    if (m != &own || Py_EnterRecursiveCall(" in a hook of simd_json") == 0) {
+        if (read_input(m, given->data, (size_t)given->max_depth, NULL))
+            value = build_any(m, given->hooks);
+        if (m == &own)
+            Py_LeaveRecursiveCall();
     }
+    give_back(m, &own);
     return value;
 }
 
-/* Checks the input where it is: the library leaves it as it is. While other threads run it must not
- * change, and bytes and str never do; the bytes of a view are a copy already. A bytearray is copied:
- * to hold its buffer, for which Python 3.10's stable ABI has no call, would keep its length alone. */
-static int check_text(memory *m, PyObject *data, const text *of) {
-    simd_json_place place;
-    if (PyByteArray_Check(data) && !copy(m, of))
-        return 0;
-    const char *bytes = PyByteArray_Check(data) ? m->input : of->bytes;
-    PyThreadState *others = of->len > LONG ? PyEval_SaveThread() : NULL;
-    int32_t status = simd_json_parser_check(&m->parser, bytes, (size_t)of->len, &place);
-    if (others)
-        PyEval_RestoreThread(others);
-    if (status != SIMD_JSON_OK)
-        reject(status, &place, data);
-    return status == SIMD_JSON_OK;
-}
-
-static PyObject *check_in(memory *kept, arguments *given) {
-    memory own = {0};
-    memory *m = kept->in_use ? &own : kept;
-    PyObject *data = given->data;
-    text of;
-    m->in_use = 1;
-    int is_right = text_of(data, &of) && is_taken(data, &of) &&
-                   prepare(m, (size_t)given->max_depth, of.len) && check_text(m, data, &of);
-    Py_XDECREF(of.owned);
-    m->in_use = 0;
-    if (m == &own)
-        release(m);
+static PyObject *none_if(int is_right) {
     if (!is_right)
         return NULL;
     Py_INCREF(Py_None);
     return Py_None;
 }
 
-/* Keeps a copy of the input with its structural indexes. A bytearray could change while other threads run. */
-static int index_in(memory *m, PyObject *data, size_t max_depth) {
-    simd_json_place place;
-    text of;
-    int is_right = text_of(data, &of) && is_taken(data, &of) && prepare(m, max_depth, of.len);
-    if (is_right) {
-        PyThreadState *others = of.len > LONG && !PyByteArray_Check(data) ? PyEval_SaveThread() : NULL;
-        int32_t status = simd_json_parser_index(&m->parser, of.bytes, (size_t)of.len, &place);
-        if (others)
-            PyEval_RestoreThread(others);
-        is_right = status == SIMD_JSON_OK;
-        if (!is_right)
-            reject(status, &place, data);
-    }
-    Py_XDECREF(of.owned);
-    return is_right;
+static PyObject *check_in(memory *kept, PyObject *data, Py_ssize_t max_depth) {
+    memory own, *m = take(kept, &own);
+    int is_right = read_input(m, data, (size_t)max_depth, simd_json_parser_check);
+    give_back(m, &own);
+    return none_if(is_right);
 }
 
-/* Copies the value that a pointer names, as it is written, to the input of `to`: 1, or 0 where there is none, or -1 and an error.
- * Of half of a surrogate pair there is no key. */
+/* Copies the value that a pointer names, as it is written, to the input of `to`: 1, or 0 where there is none, or -1 and
+ * an error. Of half of a surrogate pair there is no key. */
 static int find(memory *in, PyObject *pointer, memory *to, size_t *len) {
     simd_json_found found = {0, 0};
     text of = {NULL, 0, NULL};
@@ -738,7 +642,7 @@ static int find(memory *in, PyObject *pointer, memory *to, size_t *len) {
     int is_utf8 = utf8_of(pointer, &of);
     int32_t status = SIMD_JSON_TOO_LITTLE_ROOM;
     while (is_utf8 && status == SIMD_JSON_TOO_LITTLE_ROOM) {
-        status = simd_json_parser_find(&in->parser, of.bytes, (size_t)of.len, &found, to->input, to->input_cap);
+        status = simd_json_parser_pointer(&in->parser, of.bytes, (size_t)of.len, &found, to->input, to->input_cap);
         if (status == SIMD_JSON_TOO_LITTLE_ROOM && !grow(&to->input, &to->input_cap, found.len + 1, 1))
             break;
     }
@@ -747,25 +651,12 @@ static int find(memory *in, PyObject *pointer, memory *to, size_t *len) {
     return !is_utf8 || status == SIMD_JSON_TOO_LITTLE_ROOM ? -1 : status == SIMD_JSON_OK;
 }
 
-/* Raises the error of the value that a pointer names, of which the text is the input. */
-static void *reject_found(memory *in, PyObject *pointer, memory *m, int32_t status, const simd_json_place *place) {
-    size_t len;
-    if (find(in, pointer, m, &len) != 1) /* it was found before */
-        return PyErr_NoMemory();
-    PyObject *data = PyUnicode_DecodeUTF8(m->input, (Py_ssize_t)len, NULL);
-    if (data)
-        reject(status, place, data);
-    Py_XDECREF(data);
-    return NULL;
-}
-
-/* The value that a pointer names in the input that `in` keeps, or `none`. No code of users runs before the value is copied. */
-static PyObject *get_in(memory *in, memory *kept, PyObject *pointer, PyObject *none, arguments *given) {
-    memory own = {0};
-    memory *m = kept->in_use ? &own : kept;
+/* The value that a pointer names in the input that `in` keeps, or `none`. No code of users runs before the value is
+ * copied. */
+static PyObject *pointer_in(memory *in, memory *kept, PyObject *pointer, PyObject *none, arguments *given) {
+    memory own, *m = take(kept, &own);
     PyObject *value = NULL;
     size_t len;
-    m->in_use = 1;
     int is_found = find(in, pointer, m, &len);
     if (is_found == 0) {
         Py_INCREF(none);
@@ -773,14 +664,16 @@ static PyObject *get_in(memory *in, memory *kept, PyObject *pointer, PyObject *n
     } else if (is_found == 1 && prepare(m, (size_t)given->max_depth, (Py_ssize_t)len)) {
         simd_json_place place;
         int32_t status = simd_json_parser_parse(&m->parser, m->input, len, &m->document, &place);
-        if (status == SIMD_JSON_OK)
+        if (status == SIMD_JSON_OK) {
             value = build_any(m, given->hooks);
-        else
-            reject_found(in, pointer, m, status, &place);
+        } else if (find(in, pointer, m, &len) == 1) { /* again, since the parse has overwritten it */
+            text of = {m->input, (Py_ssize_t)len, PyUnicode_DecodeUTF8(m->input, (Py_ssize_t)len, NULL)};
+            if (of.owned)
+                reject(status, &place, of.owned, &of);
+            Py_XDECREF(of.owned);
+        }
     }
-    m->in_use = 0;
-    if (m == &own)
-        release(m);
+    give_back(m, &own);
     return value;
 }
 
@@ -794,15 +687,9 @@ static void keep_little(void) {
 
 static PyObject *loads(PyObject *module, PyObject *args, PyObject *named) {
     (void)module;
-    /* First what may call code of users, which is then over before the others are taken. */
-    static char *names[] = {"", "max_depth", "object_hook", "parse_float", "parse_int", "parse_constant", "object_pairs_hook", NULL};
     arguments given = {NULL, {NULL}, 1024};
-    PyObject **hooks = given.hooks, *parse_constant = NULL;
-    if (!PyArg_ParseTupleAndKeywords(args, named, "O|$nOOOOO:loads", names, &given.data, &given.max_depth, &hooks[OBJECT_HOOK],
-                                     &hooks[PARSE_FLOAT], &hooks[PARSE_INT], &parse_constant, &hooks[OBJECT_PAIRS_HOOK]) ||
-        !are_right(&given, parse_constant))
+    if (!PyArg_ParseTuple(args, "O:loads", &given.data) || !take_named(&given, named, "|$nOOOOO:loads"))
         return NULL;
-    keep(&given);
     PyObject *value = loads_in(&shared, &given);
     let_go(&given);
     keep_little();
@@ -812,40 +699,38 @@ static PyObject *loads(PyObject *module, PyObject *args, PyObject *named) {
 static PyObject *check(PyObject *module, PyObject *args, PyObject *named) {
     (void)module;
     static char *names[] = {"", "max_depth", NULL};
-    arguments given = {NULL, {NULL}, 1024};
-    if (!PyArg_ParseTupleAndKeywords(args, named, "O|$n:check", names, &given.data, &given.max_depth) || !are_right(&given, NULL))
+    PyObject *data;
+    Py_ssize_t max_depth = 1024;
+    if (!PyArg_ParseTupleAndKeywords(args, named, "O|$n:check", names, &data, &max_depth) || !is_depth(max_depth))
         return NULL;
-    PyObject *none = check_in(&shared, &given);
+    PyObject *none = check_in(&shared, data, max_depth);
     keep_little();
     return none;
 }
 
 /* The value that a pointer names in the input, or `none`. */
-static PyObject *get_once(PyObject *pointer, PyObject *none, arguments *given) {
-    memory own = {0};
-    memory *m = shared.in_use ? &own : &shared;
-    m->in_use = 1; /* while it is indexed other threads may run */
-    int is_indexed = index_in(m, given->data, (size_t)given->max_depth);
+static PyObject *pointer_once(PyObject *pointer, PyObject *none, arguments *given) {
+    memory own, *m = take(&shared, &own); /* while it is scanned other threads may run */
+    int is_scanned = read_input(m, given->data, (size_t)given->max_depth, simd_json_parser_scan);
     m->in_use = 0;
-    PyObject *value = is_indexed ? get_in(m, m, pointer, none, given) : NULL;
-    if (m == &own)
-        release(m);
+    PyObject *value = is_scanned ? pointer_in(m, m, pointer, none, given) : NULL;
+    give_back(m, &own);
     keep_little();
     return value;
 }
 
-static PyObject *get(PyObject *module, PyObject *args, PyObject *named) {
+static PyObject *pointer(PyObject *module, PyObject *args, PyObject *named) {
     (void)module;
     static char *names[] = {"", "", "default", "max_depth", NULL};
     arguments given = {NULL, {NULL}, 1024};
     PyObject *pointer, *none = Py_None, *max_depth = NULL, *value = NULL;
-    if (!PyArg_ParseTupleAndKeywords(args, named, "OO|O$O:get", names, &given.data, &pointer, &none, &max_depth))
+    if (!PyArg_ParseTupleAndKeywords(args, named, "OO|O$O:pointer", names, &given.data, &pointer, &none, &max_depth))
         return NULL;
     Py_INCREF(none); /* which its dict may lose when code of users or other threads run */
     if (max_depth)
         given.max_depth = PyNumber_AsSsize_t(max_depth, PyExc_OverflowError);
-    if (!PyErr_Occurred() && are_right(&given, NULL))
-        value = get_once(pointer, none, &given);
+    if (!PyErr_Occurred() && is_depth(given.max_depth))
+        value = pointer_once(pointer, none, &given);
     Py_DECREF(none);
     return value;
 }
@@ -865,20 +750,14 @@ static PyObject *parser_new(PyTypeObject *type, PyObject *args, PyObject *named)
 }
 
 static int parser_init(PyObject *self, PyObject *args, PyObject *named) {
-    static char *names[] = {"max_depth", "object_hook", "parse_float", "parse_int", "parse_constant", "object_pairs_hook", NULL};
     parser *p = (parser *)self;
-    arguments given = {NULL, {NULL}, 1024};
-    PyObject **hooks = given.hooks, *parse_constant = NULL, *old[HOOKS];
-    if (!PyArg_ParseTupleAndKeywords(args, named, "|$nOOOOO:Parser", names, &given.max_depth, &hooks[OBJECT_HOOK],
-                                     &hooks[PARSE_FLOAT], &hooks[PARSE_INT], &parse_constant, &hooks[OBJECT_PAIRS_HOOK]) ||
-        !are_right(&given, parse_constant))
+    arguments given = {NULL, {NULL}, 1024}, old;
+    if (!PyArg_ParseTuple(args, ":Parser") || !take_named(&given, named, "|$nOOOOO:Parser"))
         return -1;
-    memcpy(old, p->hooks, sizeof old);
-    keep(&given);
-    memcpy(p->hooks, hooks, sizeof old);
+    memcpy(old.hooks, p->hooks, sizeof old.hooks);
+    memcpy(p->hooks, given.hooks, sizeof old.hooks);
     p->max_depth = given.max_depth;
-    for (int i = 0; i < HOOKS; i++)
-        Py_XDECREF(old[i]);
+    let_go(&old);
     return 0;
 }
 
@@ -930,41 +809,36 @@ static PyObject *parser_loads(PyObject *self, PyObject *data) {
 }
 
 static PyObject *parser_check(PyObject *self, PyObject *data) {
-    parser *p = (parser *)self;
-    arguments given = {data, {NULL}, p->max_depth};
-    return check_in(&p->kept, &given);
+    return check_in(&((parser *)self)->kept, data, ((parser *)self)->max_depth);
 }
 
-/* Whether no other thread indexes an input with the parser; else an error is raised. */
+/* Whether no other thread scans an input with the parser; else an error is raised. */
 static int is_free(const memory *m) {
     if (m->in_use)
-        PyErr_SetString(PyExc_RuntimeError, "another thread indexes an input with this parser");
+        PyErr_SetString(PyExc_RuntimeError, "another thread scans an input with this parser");
     return !m->in_use;
 }
 
-static PyObject *parser_index(PyObject *self, PyObject *data) {
+static PyObject *parser_scan(PyObject *self, PyObject *data) {
     parser *p = (parser *)self;
     if (!is_free(&p->indexed))
         return NULL;
     Py_INCREF(self);
     p->indexed.in_use = 1;
-    int is_indexed = index_in(&p->indexed, data, (size_t)p->max_depth);
+    int is_scanned = read_input(&p->indexed, data, (size_t)p->max_depth, simd_json_parser_scan);
     p->indexed.in_use = 0;
     Py_DECREF(self);
-    if (!is_indexed)
-        return NULL;
-    Py_INCREF(Py_None);
-    return Py_None;
+    return none_if(is_scanned);
 }
 
-static PyObject *parser_get(PyObject *self, PyObject *args, PyObject *named) {
+static PyObject *parser_pointer(PyObject *self, PyObject *args, PyObject *named) {
     static char *names[] = {"", "default", NULL};
     parser *p = (parser *)self;
     PyObject *pointer, *none = Py_None;
-    if (!PyArg_ParseTupleAndKeywords(args, named, "O|O:get", names, &pointer, &none) || !is_free(&p->indexed))
+    if (!PyArg_ParseTupleAndKeywords(args, named, "O|O:pointer", names, &pointer, &none) || !is_free(&p->indexed))
         return NULL;
     arguments given = begin_call(self, NULL);
-    return end_call(self, &given, get_in(&p->indexed, &p->kept, pointer, none, &given));
+    return end_call(self, &given, pointer_in(&p->indexed, &p->kept, pointer, none, &given));
 }
 
 static PyMethodDef parser_methods[] = {
@@ -972,16 +846,16 @@ static PyMethodDef parser_methods[] = {
      "loads($self, data, /)\n--\n\nThe value of a document, as the module's loads returns it."},
     {"check", parser_check, METH_O,
      "check($self, data, /)\n--\n\nRaises SimdJsonError unless the bytes are a document."},
-    {"index", parser_index, METH_O,
-     "index($self, data, /)\n--\n\n"
-     "Keeps a copy of a document for get, instead of the one before.\n\n"
+    {"scan", parser_scan, METH_O,
+     "scan($self, data, /)\n--\n\n"
+     "Keeps a copy of a document for pointer, instead of the one before.\n\n"
      "Only its size and encoding are checked, and that strings end and contain no byte below 0x20: if not, it raises\n"
      "SimdJsonError."},
-    {"get", (PyCFunction)(void (*)(void))parser_get, METH_VARARGS | METH_KEYWORDS,
-     "get($self, pointer, /, default=None)\n--\n\n"
-     "The value that a JSON Pointer (RFC 6901) names in what index has kept, or default.\n\n"
-     "Only the value and what is on the way to it are checked: it may also be found in an input that is not a document.\n"
-     "SimdJsonError is raised for an error in the value, whose text is doc."},
+    {"pointer", (PyCFunction)(void (*)(void))parser_pointer, METH_VARARGS | METH_KEYWORDS,
+     "pointer($self, pointer, /, default=None)\n--\n\n"
+     "The value that a JSON Pointer (RFC 6901) names in what scan has kept, or default.\n\n"
+     "Only the value and what is on the way to it are checked: it may also be found in an input that is not a\n"
+     "document. SimdJsonError is raised for an error in the value, whose text is doc."},
     {NULL, NULL, 0, NULL},
 };
 
@@ -1013,20 +887,20 @@ static PyObject *set_error(PyObject *module, PyObject *function) {
 
 static PyMethodDef functions[] = {
     {"loads", (PyCFunction)(void (*)(void))loads, METH_VARARGS | METH_KEYWORDS,
-     "loads(data, /, *, object_hook=None, parse_float=None, parse_int=None, parse_constant=None, object_pairs_hook=None,"
-     " max_depth=1024)\n--\n\n"
+     "loads(data, /, *, object_hook=None, parse_float=None, parse_int=None, parse_constant=None,"
+     " object_pairs_hook=None, max_depth=1024)\n--\n\n"
      "The value of a JSON document (RFC 8259) in str, bytes, bytearray or memoryview.\n\n"
-     "parse_float and parse_int are called with the literal of a number, object_hook with a dict, and object_pairs_hook,\n"
-     "which comes first, with a list of pairs; what they return is the value. They see no unfinished container.\n"
-     "parse_constant raises TypeError: NaN and Infinity are rejected.\n\n"
+     "parse_float and parse_int are called with the literal of a number, object_hook with a dict, and\n"
+     "object_pairs_hook, which comes first, with a list of pairs; what they return is the value. They see no\n"
+     "unfinished container. parse_constant raises TypeError: NaN and Infinity are rejected.\n\n"
      "Raises SimdJsonError, with the first error and its place."},
     {"check", (PyCFunction)(void (*)(void))check, METH_VARARGS | METH_KEYWORDS,
      "check(data, /, *, max_depth=1024)\n--\n\nRaises SimdJsonError unless the bytes are a JSON document (RFC 8259)."},
-    {"get", (PyCFunction)(void (*)(void))get, METH_VARARGS | METH_KEYWORDS,
-     "get(data, pointer, /, default=None, *, max_depth=1024)\n--\n\n"
+    {"pointer", (PyCFunction)(void (*)(void))pointer, METH_VARARGS | METH_KEYWORDS,
+     "pointer(data, pointer, /, default=None, *, max_depth=1024)\n--\n\n"
      "The value that a JSON Pointer (RFC 6901) names in a document, or default.\n\n"
-     "Only the value and what is on the way to it are checked: it may also be found in an input that is not a document.\n"
-     "For several values of one document Parser.index and Parser.get are faster."},
+     "Only the value and what is on the way to it are checked: it may also be found in an input that is not a\n"
+     "document. For several values of one document Parser.scan and Parser.pointer are faster."},
     {"_set_error", set_error, METH_O, NULL},
     {NULL, NULL, 0, NULL},
 };
@@ -1063,7 +937,6 @@ static int is_home(void) {
 static int begin(PyObject *module) {
     const char *version = VERSION(SIMD_JSON_VERSION_MAJOR, SIMD_JSON_VERSION_MINOR, SIMD_JSON_VERSION_PATCH);
     PyObject *type = is_home() ? PyType_FromSpec(&parser_spec) : NULL;
-    find_inverses();
     if (!type || PyModule_AddStringConstant(module, "__version__", version) < 0
         || PyModule_AddObject(module, "Parser", type) < 0) {
         Py_XDECREF(type);

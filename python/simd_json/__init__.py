@@ -12,9 +12,9 @@ One interpreter of a process can import it, the first that does; others get Impo
 from json import JSONDecodeError
 
 from . import _native
-from ._native import __version__, check, get, loads
+from ._native import __version__, check, loads, pointer
 
-__all__ = ["Parser", "SimdJsonError", "check", "get", "load", "loads"]
+__all__ = ["Parser", "SimdJsonError", "check", "load", "loads", "pointer"]
 
 
 class SimdJsonError(JSONDecodeError):

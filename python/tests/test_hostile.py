@@ -129,10 +129,10 @@ class Hostile:
             self.nested(act)
 
     def on_demand(self, text):
-        """All threads index with one parser, which lets one in at a time."""
+        """All threads scan with one parser, which lets one in at a time."""
         try:
-            SHARED.index(text)
-            SHARED.get("/2")
+            SHARED.scan(text)
+            SHARED.pointer("/2")
         except RuntimeError as error:
             assert "another thread" in str(error)
 
@@ -147,10 +147,10 @@ class Hostile:
             elif act == 8:
                 SHARED.check(text)
             elif act == 9 and parser is not None:
-                parser.index(text)
-                parser.get("/1")
+                parser.scan(text)
+                parser.pointer("/1")
             elif act == 10:
-                simd_json.get(text, "/0")
+                simd_json.pointer(text, "/0")
                 self.on_demand(text)
         finally:
             self.deep -= 1
@@ -171,8 +171,8 @@ class Hostile:
         if way == 2:
             return next(self.parser.lines([data]))
         if way == 5:
-            self.parser.index(data)
-            return self.parser.get("")
+            self.parser.scan(data)
+            return self.parser.pointer("")
         return self.parser.loads(data)
 
     def round(self):

@@ -30,14 +30,14 @@ def calls():
     yield lambda: simd_json.Parser().check(TEXT)
     yield lambda: simd_json.loads(TEXT, object_hook=id, parse_int=str)
     yield lambda: simd_json.loads(TEXT, object_pairs_hook=tuple, parse_float=str)
-    yield lambda: simd_json.get(TEXT, "/a/3")
+    yield lambda: simd_json.pointer(TEXT, "/a/3")
     yield found
 
 
 def found():
     parser = simd_json.Parser(object_hook=id)
-    parser.index(TEXT)
-    return parser.get("/long"), parser.get("")
+    parser.scan(TEXT)
+    return parser.pointer("/long"), parser.pointer("")
 
 
 def nested():
@@ -117,7 +117,7 @@ class Memory(unittest.TestCase):
         def once():
             for text in (TEXT, b"[1,]", b'{"a":1.5', "\x00", b"\xff"):
                 for call in (simd_json.loads, lambda text: simd_json.loads(text, object_pairs_hook=dict, parse_int=str),
-                             lambda text: simd_json.get(text, "/a"), lambda text: simd_json.get(text, "/b", [])):
+                             lambda text: simd_json.pointer(text, "/a"), lambda text: simd_json.pointer(text, "/b", [])):
                     try:
                         call(text)
                     except simd_json.SimdJsonError:

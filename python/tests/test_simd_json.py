@@ -228,7 +228,7 @@ class Values(unittest.TestCase):
         self.assertEqual(simd_json.load(io.BytesIO(b'{"a":1.50}'), parse_float=str), {"a": "1.50"})
         self.assertEqual(simd_json.load(io.StringIO("[1]")), [1])
 
-    def test_get(self):
+    def test_pointer(self):
         """The value at a pointer of each row, and of each value of mutants."""
         import rows
 
@@ -244,9 +244,9 @@ class Values(unittest.TestCase):
                 pointer = rows.decoded(text.encode()).decode()
                 wanted = absent if answer.startswith("! ") else json.loads(rows.decoded(answer.encode()))
                 parser = simd_json.Parser()
-                parser.index(document)
-                self.assertEqual(simd_json.get(document, pointer, absent), wanted, line)
-                self.assertEqual(parser.get(pointer, absent), wanted, line)
+                parser.scan(document)
+                self.assertEqual(simd_json.pointer(document, pointer, absent), wanted, line)
+                self.assertEqual(parser.pointer(pointer, absent), wanted, line)
                 judged += 1
         self.assertGreater(judged, 100)
 
@@ -261,43 +261,43 @@ class Values(unittest.TestCase):
             data = changed(rng)
             pairs = by(simd_json.loads, data, object_pairs_hook=lambda pairs: dict(reversed(pairs)))
             if isinstance(pairs, simd_json.SimdJsonError):  # by what is found nothing is known
-                if not isinstance(by(parser.index, data), simd_json.SimdJsonError):
+                if not isinstance(by(parser.scan, data), simd_json.SimdJsonError):
                     for pointer in ("", "/0", "/a", "/a/0"):
-                        by(parser.get, pointer)
+                        by(parser.pointer, pointer)
                 continue
-            parser.index(data)
+            parser.scan(data)
             for pointer, value in walk(pairs, ""):
-                self.assertEqual(parser.get(pointer, absent), simd_json.get(data, pointer, absent))
+                self.assertEqual(parser.pointer(pointer, absent), simd_json.pointer(data, pointer, absent))
                 if not value:
-                    self.assertEqual(repr(parser.get(pointer, absent)), repr(value), (data, pointer))
+                    self.assertEqual(repr(parser.pointer(pointer, absent)), repr(value), (data, pointer))
 
-    def test_get_s_arguments(self):
+    def test_pointer_s_arguments(self):
         data = '{"a":[1,{"b/c":"é"}],"wrong":[1,\n01],"deep":[[[]]]}'
         for kind in (str, str.encode, lambda text: bytearray(text.encode()), lambda text: memoryview(text.encode())):
-            self.assertEqual(simd_json.get(kind(data), "/a/1/b~1c"), "é")
-            self.assertEqual((simd_json.get(kind(data), "/b"), simd_json.get(kind(data), "/b", 7)), (None, 7))
-        self.assertEqual((simd_json.get(data, "a", 1), simd_json.get(data, "/\ud800", 1)), (1, 1))
-        self.assertEqual(simd_json.get(data, "/a", default=1)[0], 1)
-        error = by(simd_json.get, data, "/wrong")
+            self.assertEqual(simd_json.pointer(kind(data), "/a/1/b~1c"), "é")
+            self.assertEqual((simd_json.pointer(kind(data), "/b"), simd_json.pointer(kind(data), "/b", 7)), (None, 7))
+        self.assertEqual((simd_json.pointer(data, "a", 1), simd_json.pointer(data, "/\ud800", 1)), (1, 1))
+        self.assertEqual(simd_json.pointer(data, "/a", default=1)[0], 1)
+        error = by(simd_json.pointer, data, "/wrong")
         self.assertEqual((error.reason, error.doc, error.pos, error.lineno, error.colno), ("InvalidNumber", "[1,\n01]", 5, 2, 2))
-        self.assertEqual(by(simd_json.get, data, "/deep", max_depth=2).reason, "DepthLimitExceeded")
-        self.assertEqual(by(simd_json.get, b'["\xff"]', "/0").reason, "InvalidUtf8")
+        self.assertEqual(by(simd_json.pointer, data, "/deep", max_depth=2).reason, "DepthLimitExceeded")
+        self.assertEqual(by(simd_json.pointer, b'["\xff"]', "/0").reason, "InvalidUtf8")
         for given in ((data, 1), (1, "/a"), (data, None), (data, b"/a")):
             with self.assertRaises(TypeError):
-                simd_json.get(*given)
-        parser = simd_json.Parser(parse_float=str, object_hook=lambda found: (parser.get("/1"), found), max_depth=3)
-        self.assertEqual(parser.get("/a", 1), 1)  # nothing is kept
-        parser.index('[{"a":1.50},"next",{"x":[[[]]]}]')
-        self.assertEqual(parser.get("/0"), ("next", {"a": "1.50"}))
-        self.assertEqual((parser.loads("[2.50]"), parser.get("/1")), (["2.50"], "next"))
-        self.assertEqual(by(parser.get, "/2").reason, "DepthLimitExceeded")
-        self.assertEqual(by(parser.index, b'["').reason, "Syntax")
-        self.assertEqual(parser.get("/1", "none"), "none")
+                simd_json.pointer(*given)
+        parser = simd_json.Parser(parse_float=str, object_hook=lambda found: (parser.pointer("/1"), found), max_depth=3)
+        self.assertEqual(parser.pointer("/a", 1), 1)  # nothing is kept
+        parser.scan('[{"a":1.50},"next",{"x":[[[]]]}]')
+        self.assertEqual(parser.pointer("/0"), ("next", {"a": "1.50"}))
+        self.assertEqual((parser.loads("[2.50]"), parser.pointer("/1")), (["2.50"], "next"))
+        self.assertEqual(by(parser.pointer, "/2").reason, "DepthLimitExceeded")
+        self.assertEqual(by(parser.scan, b'["').reason, "Syntax")
+        self.assertEqual(parser.pointer("/1", "none"), "none")
         long = "[" + " " * 100000 + '"' + "x" * 300000 + '"]'
-        parser.index(long)
-        self.assertEqual(parser.get("/0"), "x" * 300000)
+        parser.scan(long)
+        self.assertEqual(parser.pointer("/0"), "x" * 300000)
         parser.__init__(max_depth=1)
-        self.assertEqual(by(parser.get, "").__class__, list)
+        self.assertEqual(by(parser.pointer, "").__class__, list)
 
     def test_program(self):
         with tempfile.TemporaryDirectory() as folder:
@@ -378,7 +378,7 @@ class Values(unittest.TestCase):
 
         other = b'["' + b"\\u0041" * 1000 + b'", "y"]'
         for call in (lambda: parser.loads(data), lambda: simd_json.loads(data, parse_float=change),
-                     lambda: (parser.index(data), parser.get(""))[1]):
+                     lambda: (parser.scan(data), parser.pointer(""))[1]):
             data, parser = bytearray(text), simd_json.Parser(parse_float=change)
             self.assertEqual(call(), wanted)
             self.assertEqual(data, b"?" * len(text))
@@ -407,8 +407,8 @@ class Values(unittest.TestCase):
         with contextlib.suppress(TypeError):
             self.assertEqual(call(simd_json.loads, ("[1.5]",), named), ["1.50"])
         named = {"default": [json.loads("[[1]]")], "max_depth": Losing()}
-        self.assertEqual(call(simd_json.get, ("[]", "/0"), named), [[[1]]])
-        for wrong in (simd_json.loads, lambda text, **named: simd_json.get(text, "", **named)):
+        self.assertEqual(call(simd_json.pointer, ("[]", "/0"), named), [[[1]]])
+        for wrong in (simd_json.loads, lambda text, **named: simd_json.pointer(text, "", **named)):
             for depth, error in (("1", TypeError), (1 << 64, OverflowError), (-1 << 64, OverflowError), (-1, ValueError)):
                 with self.assertRaises(error):
                     wrong("[1.5]", max_depth=depth)
@@ -595,7 +595,7 @@ class Kept(unittest.TestCase):
                 self.name = name
 
         parser = Plain("a")
-        self.assertEqual((parser.loads('[{"b":[1.5]}]'), parser.get("", 7)), ([{"b": [1.5]}], 7))
+        self.assertEqual((parser.loads('[{"b":[1.5]}]'), parser.pointer("", 7)), ([{"b": [1.5]}], 7))
         self.assertEqual(by(parser.check, "[" * 1025 + "]" * 1025).reason, "DepthLimitExceeded")
         parser.check("[" * 1024 + "]" * 1024)
 
@@ -620,7 +620,7 @@ class Kept(unittest.TestCase):
         named["max_depth"] = 1024
         for call, defaults in ((simd_json.loads, named), (simd_json.check, {"max_depth": 1024}),
                                (simd_json.Parser, named), (simd_json.Parser().loads, {}),
-                               (simd_json.Parser().check, {}), (simd_json.Parser().index, {})):
+                               (simd_json.Parser().check, {}), (simd_json.Parser().scan, {})):
             each = inspect.signature(call).parameters.values()
             found = {of.name: of.default for of in each if of.kind == of.KEYWORD_ONLY}
             self.assertEqual(found, defaults)
@@ -646,9 +646,9 @@ class Kept(unittest.TestCase):
         for stub, found in pairs:
             self.assertEqual(sorted(parameters(stub)), sorted(parameters(found)), found)
 
-    def test_signatures_of_get(self):
-        self.assertEqual(str(inspect.signature(simd_json.get)), "(data, pointer, /, default=None, *, max_depth=1024)")
-        self.assertEqual(str(inspect.signature(simd_json.Parser().get)), "(pointer, /, default=None)")
+    def test_signatures_of_pointer(self):
+        self.assertEqual(str(inspect.signature(simd_json.pointer)), "(data, pointer, /, default=None, *, max_depth=1024)")
+        self.assertEqual(str(inspect.signature(simd_json.Parser().pointer)), "(pointer, /, default=None)")
 
     def test_parse_float_may_begin_its_parser_again(self):
         """The parser then drops its parse_float, which reads the document to its end all the same."""
