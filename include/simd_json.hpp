@@ -30,7 +30,6 @@
 #include <string_view>
 #include <type_traits>
 #include <utility>
-#include <vector>
 
 namespace simd_json {
 
@@ -84,6 +83,16 @@ private:
     simd_json_position position_{};
     std::string reason_, what_;
 };
+
+/* The text that `print` writes to the front of a string, again while there is too little room. */
+template <class Print> std::string printed(size_t needed, Print print) {
+    std::string out;
+    do
+        out.resize(needed);
+    while (print(out, needed) == SIMD_JSON_TOO_LITTLE_ROOM);
+    out.resize(needed);
+    return out;
+}
 
 /* Without NDEBUG an element has the number of its parse, and is larger. So it has another name
  * then: parts of a program that differ in NDEBUG and pass elements to each other are not linked. */
@@ -173,19 +182,19 @@ public:
     /* The value of the first member of an object with a key, or the element of an array with an
      * index, of any integral type but bool; if there is none, nothing, or for [] std::out_of_range.
      */
-    std::optional<element> find(std::string_view key) const { return named(simd_json_key, key); }
+    std::optional<element> get(std::string_view key) const { return named(simd_json_get, key); }
     template <class Index, std::enable_if_t<is_index<Index>, int> = 0>
-    std::optional<element> find(Index index) const {
+    std::optional<element> get(Index index) const {
         return index < Index{} ? std::nullopt : nth(static_cast<size_t>(index));
     }
     element operator[](std::string_view key) const {
-        const std::optional<element> value = find(key);
+        const std::optional<element> value = get(key);
         return value ? *value : throw absent("member \"" + std::string(key) + '"');
     }
     element operator[](const char *key) const { return (*this)[std::string_view(key)]; }
     template <class Index, std::enable_if_t<is_index<Index>, int> = 0>
     element operator[](Index index) const {
-        const std::optional<element> value = find(index);
+        const std::optional<element> value = get(index);
         return value ? *value : throw absent("element " + std::to_string(index));
     }
 
@@ -197,7 +206,7 @@ public:
 private:
     template <bool> friend class members;
     friend class parser;
-    friend class printer;
+    friend std::string to_string(const element &, uint32_t);
 
     /* A document of a parser, and how many parses that has begun. */
     struct lent : simd_json_document {
@@ -232,7 +241,7 @@ private:
     }
     bool holds_text() const { return kind() >= SIMD_JSON_I128 && kind() <= SIMD_JSON_STRING; }
     std::optional<element> nth(size_t index) const;
-    std::optional<element> named(decltype(simd_json_key) call, std::string_view name) const {
+    std::optional<element> named(decltype(simd_json_get) call, std::string_view name) const {
         const simd_json_node *const of = &node(); /* tested before an argument is read */
         const size_t at = call(of, simd_json_next(of, 0), document_->text, document_->text_len, 0,
                                name.data(), name.size());
@@ -267,14 +276,7 @@ public:
         using iterator_concept = std::forward_iterator_tag; /* which C++20 does not ask for */
         using value_type = item;
         using difference_type = std::ptrdiff_t;
-        class pointer { /* to an item that it holds */
-        public:
-            explicit pointer(const item &held) : held_(held) {}
-            const item *operator->() const { return &held_; }
-
-        private:
-            item held_;
-        };
+        using pointer = std::optional<item>; /* which holds it */
         using reference = item;
         iterator() = default;
         iterator(element at, size_t left) : at_(at), left_(left) {}
@@ -284,7 +286,7 @@ public:
             else
                 return at_;
         }
-        pointer operator->() const { return pointer(**this); }
+        pointer operator->() const { return **this; }
         iterator &operator++() {
             at_ = is_object ? at_.after().after() : at_.after();
             left_--;
@@ -326,8 +328,8 @@ inline std::optional<element> element::nth(size_t index) const {
 }
 
 /* Whether a value is a scalar: a truth value, the integer, a number whose nearest double it is, the
- * string without its escapes, or null. `root["id"] == 7`, and with `find` also if there may be
- * none: `root.find("id") == 7`. */
+ * string without its escapes, or null. `root["id"] == 7`, and with `get` also if there may be none:
+ * `root.get("id") == 7`. */
 template <class T>
 inline constexpr bool is_scalar = std::is_arithmetic_v<T> || std::is_same_v<T, std::nullptr_t>
                                   || std::is_convertible_v<const T &, std::string_view>;
@@ -360,122 +362,20 @@ bool operator!=(const T &scalar, const element &value) {
     return !(value == scalar);
 }
 
-/* The text of a value, in the form of simd_json_parser_print. Open containers are kept in a list,
- * so the stack is the same at any depth. */
-class printer {
-public:
-    explicit printer(uint32_t layout) : is_pretty_(layout != SIMD_JSON_COMPACT) {}
-
-    std::string print(const element &value) {
-        const size_t count = simd_json_next(&value.node(), 0);
-        for (size_t i = 0; i < count; i++) {
-            separate();
-            put(value.ahead(i));
-            close();
-        }
-        return std::move(out_);
-    }
-
-private:
-    /* A container, and how many keys and values of it there are, and are left. */
-    struct open {
-        bool is_object;
-        size_t len, left;
-    };
-
-    void separate() {
-        if (open_.empty())
-            return;
-        open &in = open_.back();
-        const bool is_first = in.left == in.len, is_value = in.is_object && in.left % 2 == 1;
-        in.left--;
-        if (is_value) {
-            out_ += is_pretty_ ? ": " : ":";
-            return;
-        }
-        if (!is_first)
-            out_ += ',';
-        line();
-    }
-
-    void put(const element &value) {
-        const simd_json_node &node = value.node();
-        switch (node.kind) {
-        case SIMD_JSON_NULL:
-            out_ += "null";
-            break;
-        case SIMD_JSON_BOOL:
-            out_ += node.value != 0 ? "true" : "false";
-            break;
-        case SIMD_JSON_I64:
-            out_ += std::to_string(static_cast<int64_t>(node.value));
-            break;
-        case SIMD_JSON_U64:
-            out_ += std::to_string(node.value);
-            break;
-        case SIMD_JSON_STRING:
-            quote(value.text());
-            break;
-        case SIMD_JSON_ARRAY:
-        case SIMD_JSON_OBJECT:
-            begin(node);
-            break;
-        default:
-            out_ += value.text();
-        }
-    }
-
-    void begin(const simd_json_node &node) {
-        const bool is_object = node.kind == SIMD_JSON_OBJECT;
-        out_ += is_object ? '{' : '[';
-        if (node.len == 0) {
-            out_ += is_object ? '}' : ']';
-            return;
-        }
-        const size_t len = size_t(node.len) * (is_object ? 2 : 1);
-        open_.push_back({is_object, len, len});
-    }
-
-    void close() {
-        while (!open_.empty() && open_.back().left == 0) {
-            const bool is_object = open_.back().is_object;
-            open_.pop_back();
-            line();
-            out_ += is_object ? '}' : ']';
-        }
-    }
-
-    void line() {
-        if (is_pretty_) {
-            out_ += '\n';
-            out_.append(2 * open_.size(), ' ');
-        }
-    }
-
-    void quote(std::string_view text) {
-        static constexpr char hex[] = "0123456789abcdef";
-        static constexpr std::string_view escaped = "\"\\\b\f\n\r\t", letters = "\"\\bfnrt";
-        out_ += '"';
-        for (const char c : text) {
-            const size_t at = escaped.find(c);
-            if (at != escaped.npos)
-                (out_ += '\\') += letters[at];
-            else if (static_cast<unsigned char>(c) < 0x20)
-                ((out_ += "\\u00") += hex[c >> 4]) += hex[c & 15];
-            else
-                out_ += c;
-        }
-        out_ += '"';
-    }
-
-    const bool is_pretty_;
-    std::string out_;
-    std::vector<open> open_;
-};
-
-/* A value as a document: without whitespace, or SIMD_JSON_PRETTY. Numbers keep all their digits. */
+/* A value as a document, by simd_json_print: without whitespace, or SIMD_JSON_PRETTY. Numbers keep
+ * all their digits. Throws std::bad_alloc. */
 inline std::string to_string(const element &value, uint32_t layout = SIMD_JSON_COMPACT) {
-    return printer(layout).print(value);
+    const simd_json_node *const of = &value.node();
+    const simd_json_document &in = *value.document_;
+    const size_t count = simd_json_next(of, 0);
+    const size_t each = layout == SIMD_JSON_COMPACT ? 24 : 48; /* enough for most */
+    return printed(each * count + of->len, [&](auto &out, auto &needed) {
+        const int32_t status = simd_json_print(of, count, in.text, in.text_len, 0, layout,
+                                               out.data(), out.size(), &needed);
+        if (status == SIMD_JSON_OUT_OF_MEMORY)
+            throw std::bad_alloc();
+        return status;
+    });
 }
 
 inline std::ostream &operator<<(std::ostream &out, const element &value) {
@@ -500,10 +400,7 @@ public:
     /* Parses a copy of the text. Throws its first error, or std::bad_alloc. The document is in the
      * parser, which so can't be a temporary. */
     element parse(std::string_view text) & {
-        std::string kept;
-        own(text, kept);
-        simd_json_place place;
-        check_status(try_parse(text, place), place, text);
+        call(text, &parser::try_parse);
         return root();
     }
     element parse(std::string_view) && = delete;
@@ -527,50 +424,29 @@ public:
     /* The same, but throws only std::bad_alloc: after SIMD_JSON_OK root() is the document. After
      * another status of a copy error(status, place, text) has line, column and reason. */
     int32_t try_parse(std::string_view text, simd_json_place &place) {
-        place = nowhere;
-        if (!state_)
-            return SIMD_JSON_PARSER_CLOSED;
-        if (text.size() > UINT32_MAX) {
-            state_->forget();
-            return SIMD_JSON_INPUT_TOO_LARGE;
-        }
-        state_->copy(text);
-        state_->forget();
-        return state_->parse(state_->input.get(), text.size(), place);
+        const int32_t status = take(text, place);
+        return status != SIMD_JSON_OK
+                   ? status
+                   : state_->parse(state_->input.get(), text.size(), place);
     }
     int32_t try_parse(std::string &lent, simd_json_place &place) {
-        place = nowhere;
-        if (!state_)
-            return SIMD_JSON_PARSER_CLOSED;
-        state_->forget();
-        return state_->parse(lent.data(), lent.size(), place);
+        state *const in = begin(place);
+        return in ? in->parse(lent.data(), lent.size(), place) : SIMD_JSON_PARSER_CLOSED;
     }
     template <class String, if_string<String> = 0>
     int32_t try_parse(String &&owned, simd_json_place &place) {
-        place = nowhere;
-        if (!state_)
+        state *const in = begin(place);
+        if (!in)
             return SIMD_JSON_PARSER_CLOSED;
-        state_->forget();
-        state_->owned = std::move(owned);
-        return state_->parse(state_->owned.data(), state_->owned.size(), place);
+        in->owned = std::move(owned);
+        return in->parse(in->owned.data(), in->owned.size(), place);
     }
 
     /* Throws the first error of a text that is not a document, or std::bad_alloc. The text is not
      * copied. The document that was parsed before ends, as at each of these calls. */
-    void check(std::string_view text) {
-        std::string kept;
-        own(text, kept);
-        simd_json_place place;
-        check_status(try_check(text, place), place, text);
-    }
+    void check(std::string_view text) { call(text, &parser::try_check); }
     int32_t try_check(std::string_view text, simd_json_place &place) {
-        place = nowhere;
-        if (!state_)
-            return SIMD_JSON_PARSER_CLOSED;
-        const int32_t status =
-            simd_json_parser_check(&state_->parser, text.data(), text.size(), &place);
-        state_->forget();
-        return status;
+        return read(simd_json_parser_check, text, place);
     }
 
     /* The text of a document, or of the value in it that a JSON Pointer (RFC 6901) names, by
@@ -578,63 +454,48 @@ public:
      * SIMD_JSON_NO_VALUE, or std::bad_alloc. */
     std::string print(std::string_view text, std::string_view pointer = {},
                       uint32_t layout = SIMD_JSON_COMPACT) {
-        std::string kept, kept_pointer, out;
+        std::string kept, kept_pointer;
         own(text, kept);
         own(pointer, kept_pointer);
-        simd_json_place place = nowhere;
-        size_t needed = text.size(); /* enough for compact text */
-        int32_t status = !state_                      ? SIMD_JSON_PARSER_CLOSED
-                         : text.size() > UINT32_MAX ? SIMD_JSON_INPUT_TOO_LARGE
-                                                    : SIMD_JSON_TOO_LITTLE_ROOM;
-        while (status == SIMD_JSON_TOO_LITTLE_ROOM) {
-            out.resize(needed);
-            state_->forget();
-            state_->copy(text);
-            status = simd_json_parser_print(&state_->parser, state_->input.get(), text.size(),
-                                            pointer.data(), pointer.size(), layout, out.data(),
-                                            out.size(), &needed, &place);
-        }
-        check_status(status, place, text);
-        out.resize(needed);
-        return out;
+        /* That is enough for compact text. */
+        return printed(text.size() <= UINT32_MAX ? text.size() : 0, [&](auto &out, auto &needed) {
+            simd_json_place place;
+            int32_t status = take(text, place);
+            if (status == SIMD_JSON_OK)
+                status = simd_json_parser_print(&state_->parser, state_->input.get(), text.size(),
+                                                pointer.data(), pointer.size(), layout, out.data(),
+                                                out.size(), &needed, &place);
+            if (status != SIMD_JSON_TOO_LITTLE_ROOM)
+                check_status(status, place, text);
+            return status;
+        });
     }
 
-    /* Values on demand: keeps a copy of the text, instead of the one before, for find(). Only its
-     * size and encoding are checked, and that strings end and contain no byte below 0x20: throws
-     * such an error, or std::bad_alloc. */
-    void index(std::string_view text) {
-        std::string kept;
-        own(text, kept);
-        simd_json_place place = nowhere;
-        int32_t status = SIMD_JSON_PARSER_CLOSED;
-        if (state_) {
-            state_->forget();
-            status = simd_json_parser_index(&state_->parser, text.data(), text.size(), &place);
-        }
-        check_status(status, place, text);
-    }
+    /* Values on demand: keeps a copy of the text, instead of the one before, for pointer(). Only
+     * its size and encoding are checked, and that strings end and contain no byte below 0x20:
+     * throws such an error, or std::bad_alloc. */
+    void scan(std::string_view text) { call(text, &parser::try_scan); }
 
     /* The value that a JSON Pointer (RFC 6901) names in the text that is kept, or nothing. It is a
      * document of the parser, so it is valid until the next call. Only the value and what is on the
      * way to it are checked: it may also be found in a text that is not a document. A malformed
      * word or number is nothing. Throws the first error of a string, an array or an object, whose
      * places count from its first byte, or std::bad_alloc. */
-    std::optional<element> find(std::string_view pointer) & {
+    std::optional<element> pointer(std::string_view pointer) & {
         std::string kept;
         own(pointer, kept);
         const std::optional<size_t> len = state_ ? state_->find(pointer) : std::nullopt;
         if (!len)
             return std::nullopt;
-        simd_json_place place = nowhere;
-        state_->forget();
-        const int32_t status = state_->parse(state_->input.get(), *len, place);
+        simd_json_place place;
+        const int32_t status = begin(place)->parse(state_->input.get(), *len, place);
         if (status != SIMD_JSON_OK) { /* which has overwritten the text */
             state_->find(pointer);
             check_status(status, place, std::string_view(state_->input.get(), *len));
         }
         return root();
     }
-    std::optional<element> find(std::string_view) && = delete;
+    std::optional<element> pointer(std::string_view) && = delete;
 
     /* The document that was parsed last. Throws std::logic_error if there was none, or it was
      * rejected. */
@@ -677,8 +538,8 @@ private:
             for (;;) {
                 simd_json_found found;
                 const int32_t status =
-                    simd_json_parser_find(&parser, pointer.data(), pointer.size(), &found,
-                                          input.get(), capacity);
+                    simd_json_parser_pointer(&parser, pointer.data(), pointer.size(), &found,
+                                             input.get(), capacity);
                 if (status == SIMD_JSON_OK)
                     return found.len;
                 if (status != SIMD_JSON_TOO_LITTLE_ROOM)
@@ -695,6 +556,46 @@ private:
             return simd_json_parser_parse(&parser, text, len, &document, &place);
         }
     };
+
+    /* The state for a call, which ends the document before it; null if the parser is closed. */
+    state *begin(simd_json_place &place) {
+        place = nowhere;
+        if (state_)
+            state_->forget();
+        return state_.get();
+    }
+
+    /* The same, and keeps a copy of a text, which may be the document's, unless it is too large. */
+    int32_t take(std::string_view text, simd_json_place &place) {
+        const bool is_taken = text.size() <= UINT32_MAX;
+        if (state_ && is_taken)
+            state_->copy(text);
+        return !begin(place) ? SIMD_JSON_PARSER_CLOSED
+               : is_taken   ? SIMD_JSON_OK
+                            : SIMD_JSON_INPUT_TOO_LARGE;
+    }
+
+    /* What a call of the library returns of a text, which it leaves as it is and may be the
+     * document's. */
+    int32_t read(decltype(simd_json_parser_check) of, std::string_view text,
+                 simd_json_place &place) {
+        place = nowhere;
+        if (!state_)
+            return SIMD_JSON_PARSER_CLOSED;
+        const int32_t status = of(&state_->parser, text.data(), text.size(), &place);
+        state_->forget();
+        return status;
+    }
+    int32_t try_scan(std::string_view text, simd_json_place &place) {
+        return read(simd_json_parser_scan, text, place);
+    }
+    /* Throws the error of a call with a text. */
+    void call(std::string_view text, int32_t (parser::*of)(std::string_view, simd_json_place &)) {
+        std::string kept;
+        own(text, kept);
+        simd_json_place place;
+        check_status((this->*of)(text, place), place, text);
+    }
 
     template <class... Text>
     static void check_status(int32_t status, const simd_json_place &place, Text... text) {

@@ -2,6 +2,7 @@
 // gone at once, and an index that is none. tests/bindings.sh says what the message names.
 #include <cstdio>
 #include <simd_json.hpp>
+#include <vector>
 
 simd_json_document lent();
 const simd_json_document lent_as_const();
@@ -20,7 +21,7 @@ int main() {
     for (const auto element : parser.parse("[1]").array())
         std::printf("%u", element.kind());
     return static_cast<int>(root[0].kind() + parser.root().kind() + (parser.*lend)(text).kind()
-                            + service.parser.parse("[1]").find(0)->kind());
+                            + service.parser.parse("[1]").get(0)->kind());
 #elif CASE == 1
     const auto element = simd_json::parser().parse("[1]");
 #elif CASE == 2
@@ -39,7 +40,7 @@ int main() {
 #elif CASE == 8
     const auto element = root[true];
 #elif CASE == 9
-    const auto element = simd_json::parser().find("/0");
+    const auto element = simd_json::parser().pointer("/0");
 #elif CASE == 10
     return root == std::vector<int>();
 #elif CASE == 11
@@ -53,9 +54,9 @@ int main() {
 #elif CASE == 15
     const auto element = (parser.*lend)(std::as_const(text));
 #elif CASE == 16
-    const auto element = root.find(true);
+    const auto element = root.get(true);
 #elif CASE == 17
-    const auto element = root.find(0.5);
+    const auto element = root.get(0.5);
 #elif CASE == 18
     const simd_json::parser shallow = 1;
 #endif

@@ -2,6 +2,7 @@
 // callers that change, move or free what they have lent. Silent where all is well: most of it is for sanitizers and valgrind.
 #include <iostream>
 #include <simd_json.hpp>
+#include <vector>
 
 static int failures = 0;
 #define EXPECT(condition) ((condition) ? void() : void((std::cerr << "owners.cpp:" << __LINE__ << ": " #condition "\n", failures++)))
@@ -123,7 +124,7 @@ static void read_all(const simd_json::element &value) {
     for (const auto element : value.array())
         read_all(element);
     for (const auto &[key, member] : value.object()) {
-        (void)value.find(key);
+        (void)value.get(key);
         read_all(member);
     }
     (void)value.pointer("/1/b~1/0");
@@ -160,7 +161,7 @@ static void free_what_they_lent() {
         case 1: EXPECT(p.try_parse("[", place) == SIMD_JSON_SYNTAX); break;
         case 2: EXPECT(p.try_check("[]", place) == SIMD_JSON_OK); break;
         case 3: EXPECT(p.print("[ ]") == "[]"); break;
-        case 4: p.index("[5]"); EXPECT(p.find("/0") == 5); break;
+        case 4: p.scan("[5]"); EXPECT(p.pointer("/0") == 5); break;
         case 5: p = parser(); break;
         default: break;
         }

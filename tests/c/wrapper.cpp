@@ -54,8 +54,8 @@ static void end_with_their_parse() {
                                          "simd_json: an element of an earlier parse"));
         EXPECT(are_over([&] { root.is_null(); }, [&] { root.is_array(); }, [&] { root.is_object(); }));
         EXPECT(are_over([&] { root["a"]; }, [&] { root[std::string("a")]; }, [&] { a[0]; }));
-        EXPECT(are_over([&] { root.find("a"); }, [&] { a.find(0); }, [&] { root.pointer("/a"); }));
-        EXPECT(are_over([&] { root.pointer(""); }, [&] { a.pointer("/0"); }, [&] { a.find("a"); }));
+        EXPECT(are_over([&] { root.get("a"); }, [&] { a.get(0); }, [&] { root.pointer("/a"); }));
+        EXPECT(are_over([&] { root.pointer(""); }, [&] { a.pointer("/0"); }, [&] { a.get("a"); }));
         EXPECT(are_over([&] { a.as_bool(); }, [&] { a.as_string(); }, [&] { a.as_decimal(); }));
         EXPECT(are_over([&] { a.as_int64(); }, [&] { a.as_uint64(); }, [&] { a.as_double(); }));
         EXPECT(are_over([&] { a.as_wide_integer(); }, [&] { a.array(); }, [&] { root.object(); }));
@@ -216,7 +216,7 @@ static void compare_with_scalars() {
            && root[5] != 0);
     EXPECT(root[6] == UINT64_MAX && root[6] != -1 && root[7] == std::ldexp(1.0, 64)
            && root[7] != UINT64_MAX);
-    EXPECT(root[8] != 7 && root[8] != "a" && root[8].find("a") == 7 && root[8].find("b") != 7);
+    EXPECT(root[8] != 7 && root[8] != "a" && root[8].get("a") == 7 && root[8].get("b") != 7);
     EXPECT(root != false && root != nullptr && simd_json::element() == nullptr);
 }
 
@@ -268,23 +268,23 @@ static void are_checked() {
     EXPECT(parser.try_check("[]", place) == SIMD_JSON_PARSER_CLOSED);
     EXPECT(throws([&] { parser.check("[]"); }, SIMD_JSON_PARSER_CLOSED, 0));
     EXPECT(throws([&] { parser.print("[]"); }, SIMD_JSON_PARSER_CLOSED, 0));
-    EXPECT(throws([&] { parser.index("[]"); }, SIMD_JSON_PARSER_CLOSED, 0) && !parser.find(""));
+    EXPECT(throws([&] { parser.scan("[]"); }, SIMD_JSON_PARSER_CLOSED, 0) && !parser.pointer(""));
 }
 
 static void are_found() {
     simd_json::parser parser;
-    EXPECT(!parser.find(""));
+    EXPECT(!parser.pointer(""));
     std::string text = R"({"a":[{"id":7,"name":"\u00e9"}],"wrong":[1,
  x],"long":")" + std::string(100000, 'x') + R"(","~/":2)";
-    parser.index(text);
+    parser.scan(text);
     text.assign(text.size(), ' '); // it is kept
-    EXPECT(parser.find("/a/0/id") == 7 && parser.find("/a/0/name") == "é");
-    EXPECT(parser.find("/~0~1") == 2 && !parser.find("/a/1") && !parser.find("a")
-           && !parser.find("/\xff"));
-    EXPECT(parser.find("/long")->as_string()->size() == 100000 && parser.root().as_string());
-    EXPECT(parser.find("/a").value()[0]["id"] == 7);
+    EXPECT(parser.pointer("/a/0/id") == 7 && parser.pointer("/a/0/name") == "é");
+    EXPECT(parser.pointer("/~0~1") == 2 && !parser.pointer("/a/1") && !parser.pointer("a")
+           && !parser.pointer("/\xff"));
+    EXPECT(parser.pointer("/long")->as_string()->size() == 100000 && parser.root().as_string());
+    EXPECT(parser.pointer("/a").value()[0]["id"] == 7);
     try {
-        parser.find("/wrong");
+        parser.pointer("/wrong");
         EXPECT(false);
     } catch (const simd_json::error &e) {
         EXPECT(e.index() == 5 && e.line() == 2 && e.column() == 2);
@@ -292,18 +292,18 @@ static void are_found() {
     }
     EXPECT(ends_by<std::logic_error>([&] { parser.root(); }));
     EXPECT(parser.parse("[\"/a/0\"]")[0] == "/a/0");
-    EXPECT(parser.find(parser.root()[0].as_string().value()).value()["id"] == 7);
-    EXPECT(throws([&] { parser.index("[\"\xff\"]"); }, SIMD_JSON_INVALID_UTF8, 0));
-    EXPECT(!parser.find("/a"));
+    EXPECT(parser.pointer(parser.root()[0].as_string().value()).value()["id"] == 7);
+    EXPECT(throws([&] { parser.scan("[\"\xff\"]"); }, SIMD_JSON_INVALID_UTF8, 0));
+    EXPECT(!parser.pointer("/a"));
     // A malformed word or number is no value, a malformed string is found.
-    parser.index(R"([tru, 01, "\q", [1.]])");
-    EXPECT(!parser.find("/0") && !parser.find("/1") && !parser.find("/3/0"));
-    EXPECT(throws([&] { parser.find("/2"); }, SIMD_JSON_INVALID_ESCAPE, 1));
-    EXPECT(throws([&] { parser.find("/3"); }, SIMD_JSON_INVALID_NUMBER, 3));
+    parser.scan(R"([tru, 01, "\q", [1.]])");
+    EXPECT(!parser.pointer("/0") && !parser.pointer("/1") && !parser.pointer("/3/0"));
+    EXPECT(throws([&] { parser.pointer("/2"); }, SIMD_JSON_INVALID_ESCAPE, 1));
+    EXPECT(throws([&] { parser.pointer("/3"); }, SIMD_JSON_INVALID_NUMBER, 3));
 #ifndef NDEBUG
-    parser.index("[1,2]");
-    const auto one = parser.find("/0");
-    EXPECT(parser.find("/1") == 2);
+    parser.scan("[1,2]");
+    const auto one = parser.pointer("/0");
+    EXPECT(parser.pointer("/1") == 2);
     EXPECT(ends_by<std::logic_error>([&] { one->kind(); }));
 #endif
 }
@@ -312,7 +312,7 @@ static void are_null_by_default() {
     const simd_json::element none;
     EXPECT(none.is_null() && !none.as_string() && !none.as_double() && none.array().size() == 0
            && none.object().size() == 0);
-    EXPECT(none.pointer("")->is_null() && !none.pointer("/a") && !none.find("a") && !none.find(0));
+    EXPECT(none.pointer("")->is_null() && !none.pointer("/a") && !none.get("a") && !none.get(0));
     EXPECT(simd_json::array_view().begin() == simd_json::array_view().end());
 }
 
@@ -366,11 +366,11 @@ int main() {
     EXPECT(a[1].as_int64() == -2 && !a[1].as_uint64() && a[1].as_double() == -2.0);
     EXPECT(a[2].as_double() == 2.5 && a[2].as_decimal() == "2.5" && !a[2].as_int64());
     EXPECT(std::isinf(a[3].as_double().value()) && a[4].as_double() == 0.0);
-    EXPECT(a[5].as_string() == "é" && a[6].is_null() && a[7].as_bool() == true && !a.find(8));
+    EXPECT(a[5].as_string() == "é" && a[6].is_null() && a[7].as_bool() == true && !a.get(8));
     EXPECT(root["b"]["c"].as_uint64() == UINT64_MAX && !root["b"]["c"].as_int64());
     EXPECT(root.pointer("/b/c")->as_uint64() == UINT64_MAX && root.pointer("")->is_object() && a.pointer("/2")->as_double() == 2.5);
     EXPECT(a.pointer("/5")->as_string() == "é" && !root.pointer("/b/d") && !a.pointer("/8") && !a[0].pointer("/0") && !a.pointer("0"));
-    EXPECT(!root.find("d") && !a.find("a") && !root.find(0) && a.object().size() == 0);
+    EXPECT(!root.get("d") && !a.get("a") && !root.get(0) && a.object().size() == 0);
     std::string keys;
     for (const auto &[key, value] : root.object())
         keys += std::string(key) + std::to_string(value.kind());
