@@ -343,10 +343,67 @@ static PyObject *to_wide(const memory *m, const simd_json_node *node) {
     return PyLong_FromString(literal, NULL, 10);
 }
 
+/* Of 1 / 5^k the first 64 bits, of which the first is 1, and how many bits 5^k has. */
+enum { MOST_BEHIND = 18 };
+static struct {
+    uint64_t first;
+    int bits;
+} inverses[MOST_BEHIND + 1];
+
+static void find_inverses(void) {
+    uint64_t five = 1;
+    for (int k = 1; k <= MOST_BEHIND; k++) {
+        five *= 5;
+        inverses[k].bits = 64 - __builtin_clzll(five);
+        inverses[k].first = (uint64_t)(((unsigned __int128)1 << (63 + inverses[k].bits)) / five);
+    }
+}
+
+/* The nearest float of a literal of at most 19 digits without an exponent, so with a point, where one rounding finds it. */
+static int read_short(const char *literal, size_t len, double *number) {
+    const int is_negative = literal[0] == '-';
+    const char *at = literal + is_negative, *end = literal + len, *point = end;
+    uint64_t digits = 0;
+    int64_t power = 1;
+    if (end - at > 20)
+        return 0;
+    for (; at < end; at++) {
+        if (*at >= '0' && *at <= '9') {
+            digits = 10 * digits + (uint64_t)(*at - '0');
+            power *= 10;
+        } else if (*at == '.') {
+            point = at;
+            power = 1;
+        } else {
+            return 0;
+        }
+    }
+    if (digits <= UINT64_C(1) << 53) {
+        /* Digits and power are floats, and their quotient is rounded (W. D. Clinger, "How to Read Floating Point Numbers
+         * Accurately", PLDI 1990). */
+        *number = (double)(int64_t)digits / (double)power;
+    } else {
+        /* Where the number is q 2^e, this is less than 2 below q. It has 63 or 64 bits, and a float 53: so it is known to which of
+         * two floats q is nearer, but not close to the middle between them, which is a multiple of 512. */
+        const int k = (int)(end - point) - 1, shift = __builtin_clzll(digits);
+        const uint64_t q = (uint64_t)((unsigned __int128)(digits << shift) * inverses[k].first >> 64);
+        if ((q + 1) % 512 < 3)
+            return 0;
+        const uint64_t bits = (uint64_t)(1023 + 2 - inverses[k].bits - shift - k) << 52;
+        double scale;
+        memcpy(&scale, &bits, sizeof scale);
+        *number = (double)(int64_t)(q >> 1) * scale;
+    }
+    if (is_negative)
+        *number = -*number;
+    return 1;
+}
+
 /* A number with a fraction or an exponent: the nearest float. */
 static PyObject *to_float(const memory *m, const simd_json_node *node) {
     double number = 0;
-    simd_json_double(m->document.text + node->value, node->len, &number);
+    if (!read_short(m->document.text + node->value, node->len, &number))
+        simd_json_double(m->document.text + node->value, node->len, &number);
     return PyFloat_FromDouble(number);
 }
 
@@ -937,6 +994,7 @@ static int is_home(void) {
 static int begin(PyObject *module) {
     const char *version = VERSION(SIMD_JSON_VERSION_MAJOR, SIMD_JSON_VERSION_MINOR, SIMD_JSON_VERSION_PATCH);
     PyObject *type = is_home() ? PyType_FromSpec(&parser_spec) : NULL;
+    find_inverses();
     if (!type || PyModule_AddStringConstant(module, "__version__", version) < 0
         || PyModule_AddObject(module, "Parser", type) < 0) {
         Py_XDECREF(type);

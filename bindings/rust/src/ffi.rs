@@ -1,5 +1,6 @@
 //! The calls of the library, which `include/simd_json.h` documents: all that is `unsafe` in this crate.
 use crate::error::{Error, ErrorType, Location};
+use crate::number::nearest;
 use crate::value::{Tape, Value, ValueType};
 use std::ffi::c_void;
 use std::{fmt, ptr, slice, str};
@@ -104,10 +105,7 @@ impl<'n, 't> Nodes<'n, 't> {
     /// The double nearest to the literal of one of them.
     #[inline]
     pub(crate) fn double(self, node: &Node) -> f64 {
-        let (literal, mut double) = (self.text(node), 0.0);
-        // SAFETY: the literal is only read, and the number written, until the call returns.
-        unsafe { simd_json_double(literal.as_ptr(), literal.len(), &mut double) };
-        double
+        nearest(self.text(node).as_bytes())
     }
 
     /// The integer whose literal one of them has: 128 bits, of a negative one in two's complement.
@@ -181,7 +179,6 @@ type Read = unsafe extern "C" fn(*mut RawParser, *const u8, usize, *mut Place) -
 // A number without a name is the length of what the pointer before it points to.
 extern "C" {
     fn simd_json_check(input: *const u8, _: usize, max_depth: usize, place: *mut Place) -> i32;
-    fn simd_json_double(literal: *const u8, _: usize, double: *mut f64) -> i32;
     fn simd_json_integer(literal: *const u8, _: usize, low: *mut u64, high: *mut u64) -> i32;
     fn simd_json_get(_: *const Node, _: usize, _: *const u8, _: usize, object: usize, _: *const u8, _: usize) -> usize;
     fn simd_json_pointer(_: *const Node, _: usize, _: *const u8, _: usize, at: usize, _: *const u8, _: usize) -> usize;

@@ -5,6 +5,7 @@ mod compare;
 mod de;
 mod error;
 mod ffi;
+mod number;
 #[cfg(feature = "serde")]
 mod ser;
 mod value;
