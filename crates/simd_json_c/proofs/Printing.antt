@@ -70,13 +70,17 @@ module _ (text : List ℕ) (cell : Cell) (r : Item) where
       wide (inr (ap (λ (n : Cell). n.kind) is.node_is)) (fixed.U128 n)
       (is.part, part-at _ is (ap (λ (n : Cell). n.len) is.node_is) (ap (λ (n : Cell). n.value) is.node_is), (refl, is.is_text, p))
   made (decimal_item t) is p null truth signed unsigned wide decimal string array object =
-      decimal (ap (λ (n : Cell). n.kind) is.node_is) t
-      (subst (IsPartAt text cell.value cell.len) is.is_text
-      (part-at _ is (ap (λ (n : Cell). n.len) is.node_is) (ap (λ (n : Cell). n.value) is.node_is)), p)
+      decimal (ap (λ (n : Cell). n.kind) is.node_is) t (
+        subst (IsPartAt text cell.value cell.len) is.is_text
+            (part-at _ is (ap (λ (n : Cell). n.len) is.node_is) (ap (λ (n : Cell). n.value) is.node_is)),
+        p,
+      )
   made (string_item t) is p null truth signed unsigned wide decimal string array object =
-      string (ap (λ (n : Cell). n.kind) is.node_is) t
-      (subst (IsPartAt text cell.value cell.len) is.is_text
-      (part-at _ is (ap (λ (n : Cell). n.len) is.node_is) (ap (λ (n : Cell). n.value) is.node_is)), p)
+      string (ap (λ (n : Cell). n.kind) is.node_is) t (
+        subst (IsPartAt text cell.value cell.len) is.is_text
+            (part-at _ is (ap (λ (n : Cell). n.len) is.node_is) (ap (λ (n : Cell). n.value) is.node_is)),
+        p,
+      )
   made (array_item m n) is p null truth signed unsigned wide decimal string array object =
       array (ap (λ (n : Cell). n.kind) is.node_is)
       ∙ ap₂ array_item (ap (λ (n : Cell). n.len) is.node_is) (ap (λ (n : Cell). n.value) is.node_is)

@@ -14,8 +14,8 @@ ghost use Rattle.simd_json_c.specs.Kept.{AreNew, IsReadWith, KeepsLists};
 ghost use Rattle.simd_json_c.specs.Lent.{AreLent};
 ghost use Rattle.simd_json_c.specs.Statuses.{no_value_status};
 
-use crate::lent::Lent;
 use crate::cells::Cell;
+use crate::lent::Lent;
 use crate::print::print_at;
 use crate::scanned::ScannedInput;
 use crate::status::{ErrorPlace, NO_VALUE, OUT_OF_MEMORY, reported};

@@ -15,8 +15,8 @@ ghost use Rattle.simd_json_c.specs.Printable.{IsNodePrinted};
 ghost use Rattle.simd_json_c.specs.Statuses.{error_place, error_status, out_of_memory};
 
 use crate::cells::Cell;
-use crate::printable::nodes_from;
 use crate::parser::Parser;
+use crate::printable::nodes_from;
 use crate::status::{
     ErrorPlace, NO_VALUE, OUT_OF_MEMORY, PARSER_CLOSED, TOO_LITTLE_ROOM, reported,
 };
