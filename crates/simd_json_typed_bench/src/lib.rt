@@ -102,7 +102,11 @@ fn owned<T: DeserializeOwned + Sum>(
     let mut sum = 0u64;
     for slot in texts.chunks_exact_mut(stride.max(1)) {
         let text = slot.get_mut(..len)?;
-        let read = simd_json_serde::from_slice_mut_owned_with::<T>(text, &mut buffers, &mut scratch);
+        let read = simd_json_serde::from_slice_mut_owned_with::<T>(
+            text,
+            &mut buffers,
+            &mut scratch,
+        );
         sum = sum.wrapping_add(read.ok()?.sum());
     }
     Some(sum)
@@ -127,8 +131,12 @@ fn borrowed_one(
     scratch: &mut Scratch,
 ) -> Option<u64> {
     match form {
-        0 => summed(simd_json_serde::from_slice_mut_with::<Line<Borrowed<'_>>>(text, buffers, scratch)),
-        1 => summed(simd_json_serde::from_slice_mut_with::<Timeline<Borrowed<'_>>>(text, buffers, scratch)),
+        0 => summed(simd_json_serde::from_slice_mut_with::<Line<Borrowed<'_>>>(
+            text, buffers, scratch,
+        )),
+        1 => summed(simd_json_serde::from_slice_mut_with::<Timeline<Borrowed<'_>>>(
+            text, buffers, scratch,
+        )),
         _ => summed(simd_json_serde::from_slice_mut_with::<Map>(text, buffers, scratch)),
     }
 }

@@ -19,7 +19,9 @@ pub(crate) fn of_texts(
     let mut buffer = Vec::new(alloc);
     let mut sum = 0u64;
     for slot in texts.chunks_exact(stride.max(1)) {
-        let root = read(&mut checker, slot.get(..len)?, checks).ok()?.as_value();
+        let root = read(&mut checker, slot.get(..len)?, checks)
+            .ok()?
+            .as_value();
         sum = sum.wrapping_add(answer(alloc, root, task, &mut buffer)?);
     }
     Some(sum)

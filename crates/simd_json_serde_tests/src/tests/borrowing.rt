@@ -4,8 +4,8 @@ use crate::tests::{MEMORY, bytes_of, read_owned_from};
 use serde::Deserialize;
 use simd_json::{Buffers, Tape, to_tape};
 use simd_json_serde::{
-    ReadError, Scratch, borrowed_str, from_slice_mut, from_slice_mut_owned, from_tape, from_value, from_slice_mut_with,
-    from_slice_mut_owned_with,
+    ReadError, Scratch, borrowed_str, from_slice_mut, from_slice_mut_owned,
+    from_slice_mut_owned_with, from_slice_mut_with, from_tape, from_value,
 };
 use std::alloc::Global;
 use std::borrow::CowStr;
@@ -104,16 +104,32 @@ fn memory_is_kept(rt: HostRuntime) {
     let mut scratch = Scratch::new(alloc);
     for _ in 0..3 {
         let mut input = bytes_of(&rt, alloc, LINE);
-        let line: Result<Line<'_>, ReadError> = from_slice_mut_with(&mut input, &mut buffers, &mut scratch);
+        let line: Result<Line<'_>, ReadError> = from_slice_mut_with(
+            &mut input,
+            &mut buffers,
+            &mut scratch,
+        );
         // What is kept serves the next read while the line is still borrowed.
         let mut other = bytes_of(&rt, alloc, "{\"level\":");
-        let none: Result<Line<'_>, ReadError> = from_slice_mut_with(&mut other, &mut buffers, &mut scratch);
+        let none: Result<Line<'_>, ReadError> = from_slice_mut_with(
+            &mut other,
+            &mut buffers,
+            &mut scratch,
+        );
         assert!(rt; none.is_err(), "no document");
         let mut other = bytes_of(&rt, alloc, "[[1],[2,[3]]]");
-        let list: Result<Vec<u8>, ReadError> = from_slice_mut_owned_with(&mut other, &mut buffers, &mut scratch);
+        let list: Result<Vec<u8>, ReadError> = from_slice_mut_owned_with(
+            &mut other,
+            &mut buffers,
+            &mut scratch,
+        );
         assert!(rt; list.is_err(), "no list of numbers");
         let mut other = bytes_of(&rt, alloc, "[1,2,3]");
-        let list: Result<Vec<u8>, ReadError> = from_slice_mut_owned_with(&mut other, &mut buffers, &mut scratch);
+        let list: Result<Vec<u8>, ReadError> = from_slice_mut_owned_with(
+            &mut other,
+            &mut buffers,
+            &mut scratch,
+        );
         let list = list.ok().expect(&rt, "it is a list");
         assert_eq!(rt; list.as_slice(), [1, 2, 3].as_slice());
         assert_line(&rt, &line.ok().expect(&rt, "it is a line"));

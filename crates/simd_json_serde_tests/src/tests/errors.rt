@@ -3,7 +3,7 @@ use crate::tests::types::{Command, Either, Folder, Message, Placed, Shape, Tweet
 use crate::tests::{MEMORY, bytes_of, read_owned_from};
 use serde::DeserializeOwned;
 use simd_json::{ErrorType, to_tape};
-use simd_json_serde::{ReadError, Mismatch, MismatchKind};
+use simd_json_serde::{Mismatch, MismatchKind, ReadError};
 use std::alloc::Global;
 use std::collections::BTreeMap;
 use std::process::Abort;

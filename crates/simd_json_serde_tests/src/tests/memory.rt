@@ -2,7 +2,9 @@
 // `rt try --test --fail-alloc N` for each N, where the other tests may fail, and these at `SETUP`.
 use crate::tests::types::{Folder, Line, Tweet};
 use simd_json::{Buffers, ErrorType};
-use simd_json_serde::{ReadError, Scratch, MismatchKind, from_slice_mut, from_slice_mut_owned, from_slice_mut_with};
+use simd_json_serde::{
+    MismatchKind, ReadError, Scratch, from_slice_mut, from_slice_mut_owned, from_slice_mut_with,
+};
 use std::process::Abort;
 
 const SETUP: &str = "what is kept was made";
@@ -32,7 +34,11 @@ fn failed_allocations_are_errors(rt: HostRuntime) {
     let mut buffers = Buffers::new(alloc, 0).expect(&rt, SETUP);
     for _ in 0..2 {
         let mut input = *br#"{"level":"\u0041","status":200,"path":"\/a","z":[{}]}"#;
-        let line: Result<Line<'_>, ReadError> = from_slice_mut_with(&mut input, &mut buffers, &mut scratch);
+        let line: Result<Line<'_>, ReadError> = from_slice_mut_with(
+            &mut input,
+            &mut buffers,
+            &mut scratch,
+        );
         assert_read_or_of_memory(&rt, "kept", &line);
     }
 }
@@ -48,7 +54,11 @@ fn reserved_reads_need_no_memory(rt: HostRuntime) {
     scratch.reserve(text.len()).expect(&rt, SETUP);
     for _ in 0..2 {
         let mut input = *text;
-        let line: Result<Line<'_>, ReadError> = from_slice_mut_with(&mut input, &mut buffers, &mut scratch);
+        let line: Result<Line<'_>, ReadError> = from_slice_mut_with(
+            &mut input,
+            &mut buffers,
+            &mut scratch,
+        );
         assert!(rt; line.is_ok(), "there is memory");
     }
 }

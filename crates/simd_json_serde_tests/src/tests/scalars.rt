@@ -33,7 +33,10 @@ fn integers_are_read_where_they_fit(rt: HostRuntime) {
     assert_eq!(rt; read_at::<i32>(&rt, alloc, &array, 5), None);
     assert_eq!(rt; read_at::<i64>(&rt, alloc, &array, 5), Some(-2147483649));
     assert_eq!(rt; read_at::<i64>(&rt, alloc, &array, 6), None);
-    assert_eq!(rt; read_at::<i128>(&rt, alloc, &array, 6), Some(18446744073709551616));
+    assert_eq!(rt;
+        read_at::<i128>(&rt, alloc, &array, 6),
+        Some(18446744073709551616)
+    );
     assert_eq!(rt; read_at::<u8>(&rt, alloc, &array, 2), Some(255));
     assert_eq!(rt; read_at::<u8>(&rt, alloc, &array, 3), None);
     assert_eq!(rt; read_at::<u16>(&rt, alloc, &array, 3), Some(256));
@@ -42,7 +45,10 @@ fn integers_are_read_where_they_fit(rt: HostRuntime) {
     assert_eq!(rt; read_at::<u32>(&rt, alloc, &array, 0), None);
     assert_eq!(rt; read_at::<u64>(&rt, alloc, &array, 3), Some(256));
     assert_eq!(rt; read_at::<u64>(&rt, alloc, &array, 6), None);
-    assert_eq!(rt; read_at::<u128>(&rt, alloc, &array, 6), Some(18446744073709551616));
+    assert_eq!(rt;
+        read_at::<u128>(&rt, alloc, &array, 6),
+        Some(18446744073709551616)
+    );
 }
 
 #[test]
