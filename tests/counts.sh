@@ -31,11 +31,11 @@ wrong=$(
         cat $(find crates -path "crates/*/$1/*" -name "$2" -not -path '*/out/*' |
             grep -vE '^crates/([a-z_]*_(tests|bench|rows)|typed_log|log_fields)/') | wc -l
     }
-    most 'lines of sources' "$(lines src '*.rt')" 28300
-    most 'lines of definitions' "$(lines specs '*.antt')" 9200
-    most 'lines of proofs' "$(lines proofs '*.antt')" 49500
+    most 'lines of sources' "$(lines src '*.rt')" 30400
+    most 'lines of definitions' "$(lines specs '*.antt')" 9900
+    most 'lines of proofs' "$(lines proofs '*.antt')" 53600
     most 'lines of wrappers, which nothing proves' \
-        "$(cat python/native.c include/simd_json.h include/simd_json.hpp bindings/rust/src/*.rs bindings/rust/src/*/*.rs | wc -l)" 3700
+        "$(cat python/native.c include/simd_json.h include/simd_json.hpp bindings/rust/src/*.rs bindings/rust/src/*/*.rs | wc -l)" 3950
     most 'words of documents, without code' "$(cat README.md CHANGELOG.md CONTRIBUTING.md SECURITY.md docs/*.md bench/HISTORY.md \
         examples/README.md | awk '/^ *```/ { code = !code; next } !code' | wc -w)" 10500
 )
