@@ -1,8 +1,7 @@
 -- What was appended to a list that grows, at the end of a text.
-use Rattle.std.proofs.Common.{◌≡◌, ◌<◌, ◌≤◌, ◌+◌, ◌∙◌, ap, sym, arith, ℕ, Bool, false, List, ◌∷◌, ◌++◌, Some}
-use Rattle.std.proofs.Common.{length, length-append, length-take, take, drop, append_assoc, take-append-drop}
+use Rattle.std.proofs.Common.{◌≡◌, ◌<◌, ◌≤◌, ◌+◌, ◌∙◌, ap, sym, arith, ℕ, Bool, false, List, ◌∷◌, ◌++◌, Some, length, length-append}
+use Rattle.std.proofs.Common.{length-take, take, drop, append_assoc, take-append-drop, Result, Ok, Err, OnOk, OnErr}
 use Rattle.std.proofs.Math.Seq.{take-append_seam}
-use Rattle.std.specs.Prelude.{Result, Ok, Err, OnOk, OnErr}
 use Rattle.std.specs.Vec.{vec_capacity}
 use Rattle.simd_json_print.specs.Texts.{TargetState, HasEnded, IsPrefix}
 use Rattle.simd_json_print.specs.declared.document.growing.Growing.{Growing}

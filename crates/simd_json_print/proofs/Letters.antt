@@ -1,8 +1,7 @@
 -- The tables by which a byte is escaped.
-use Rattle.std.proofs.Common.{◌≡◌, ◌∙◌, ap₂, ℕ, ◌<◌, ◌/◌, ◌%◌, List, [], ◌∷◌, ◌++◌, length, get_or, codes, true, ◌==◌, arith}
+use Rattle.std.proofs.Common.{◌≡◌, ◌∙◌, ap₂, ℕ, ◌<◌, ◌/◌, ◌%◌, List, [], ◌∷◌, ◌++◌, length, get_or, codes, true, ◌==◌, arith, if◌then◌else◌}
 use Rattle.std.proofs.lemmas.Bool.Decides.{nat_tests}
 use Rattle.std.specs.Char.{digit_char}
-use Rattle.std.specs.Prelude.{if◌then◌else◌}
 use Rattle.simd_json_parts.proofs.Tables.{lists_values, table-value}
 use Rattle.simd_json_parts.specs.Bytes.{backspace, tab, line_feed, form_feed, carriage_return, quote, backslash, is_control}
 use Rattle.simd_json_parts.specs.Printed.{escaped_byte}

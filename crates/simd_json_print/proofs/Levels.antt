@@ -1,8 +1,6 @@
 -- Levels in a list that grows with what is open.
-use Rattle.std.proofs.Common.{◌≡◌, ◌∙◌, ap, sym, subst, ◌<◌, ◌≤◌, ◌+◌, ◌^◌, ◌⊎◌, inl, inr, ℕ, Bool, List, [], ◌∷◌, ◌++◌, length, map}
-use Rattle.std.proofs.Common.{take, drop, get_or}
-use Rattle.std.proofs.Common.{append-nil, arith}
-use Rattle.std.specs.Prelude.{Result, Ok, Err, IsErrAnd, MatchResult, OnErr, OnOk}
+use Rattle.std.proofs.Common.{◌≡◌, ◌∙◌, ap, sym, subst, ◌<◌, ◌≤◌, ◌+◌, ◌^◌, ◌⊎◌, inl, inr, ℕ, Bool, List, [], ◌∷◌, ◌++◌, length, map, take}
+use Rattle.std.proofs.Common.{drop, get_or, arith, Result, Ok, Err, IsErrAnd, MatchResult}
 use Rattle.std.proofs.lemmas.List.{get_or-take, length-map}
 use Rattle.std.proofs.Math.Seq.{take-append_seam}
 use Rattle.simd_json_parts.specs.Document.{Document}
@@ -10,7 +8,7 @@ use Rattle.simd_json_parts.specs.Headers.{count_of}
 use Rattle.simd_json_parts.specs.Nodes.{Item, item_of}
 use Rattle.simd_json_parts.specs.Printed.{text}
 use Rattle.simd_json_parts.specs.declared.node.Node.{Node}
-use Rattle.simd_json_print.specs.Frames.{IsAtValue, IsDeep, IsNext, no_level}
+use Rattle.simd_json_print.specs.Frames.{IsAtValue, IsDeep, no_level}
 use Rattle.simd_json_print.specs.Texts.{IsPrefix}
 use Rattle.simd_json_print.specs.declared.document.walk.Level.{Level}
 use Rattle.simd_json_print.proofs.Nestings.{at-longer}
@@ -34,10 +32,6 @@ pub at-prefix : (p : Bool) (n : ℕ) (levels : List Level) (o : ℕ) (items : Li
     → IsAtValue p n levels o items done root → IsPrefix done (text p root n)
 at-prefix p n levels o items done root is = ap (take (length done)) (sym is.printed) ∙ take-append_seam done _
 
--- the whole text is a prefix of itself
-pub whole-prefix : (done whole : List ℕ) → done ≡ whole → IsPrefix done whole
-whole-prefix done whole is = ap (take (length done)) (sym is ∙ sym (append-nil done)) ∙ take-append_seam done []
-
 -- with one level more than are in use, a step ends behind the first node
 pub smaller : (levels new : List Level) (o k : ℕ) (ns left : List Node) → o < length levels → length new ≡ length levels
     → k + length left ≤ o + length ns → o + length ns < 2 ^ 32 → 0 < length ns
@@ -49,36 +43,20 @@ smaller levels new o k ns (x ∷ left) more same room few some deep = by-case de
     by-case (inl full) = omega (arith, full, more, same, room)
     by-case (inr great) = absurd (omega (arith, great, few, room, length-map left item_of, more))
 
--- the exit of a `?`
-pub failed : {A E : Type 0} (r : Result A E) (e : E) (P : A → Type 0) (Q : Type 0) → IsErrAnd r (λ x. x ≡ e) → Q
-    → MatchResult r P (λ _. Q)
-failed (Ok x) e P Q is q = absurd is
-failed (Err x) e P Q is q = q
-
 -- ---- results
 
-pub ok-whole : {A E : Type 0} (r : Result A E) (P Q : Type 0) → MatchResult r (λ _. P) (λ _. Q) → OnOk r P
-ok-whole (Ok x) P Q is = is
-ok-whole (Err e) P Q is = tt
+pub on-match : {A E : Type 0} (r : Result A E) (P Q R S : Type 0) → (P → R) → (Q → S) → MatchResult r (λ _. P) (λ _. Q)
+    → MatchResult r (λ _. R) (λ _. S)
+on-match (Ok x) P Q R S f g is = f is
+on-match (Err e) P Q R S f g is = g is
 
-pub err-begun : {A E : Type 0} (r : Result A E) (P Q : Type 0) → MatchResult r (λ _. P) (λ _. Q) → OnErr r Q
-err-begun (Ok x) P Q is = tt
-err-begun (Err e) P Q is = is
+pub was-ok : {A E : Type 0} (r : Result A E) (x : A) (P Q : Type 0) → r ≡ Ok x → MatchResult r (λ _. P) (λ _. Q) → P
+was-ok r x P Q is on = subst (λ q. MatchResult q (λ _. P) (λ _. Q)) is on
 
-pub on-ok : {A E : Type 0} (r : Result A E) (P Q : Type 0) → (P → Q) → OnOk r P → OnOk r Q
-on-ok (Ok x) P Q f is = f is
-on-ok (Err e) P Q f is = tt
+pub was-err : {A E : Type 0} (r : Result A E) (e : E) (P Q : Type 0) → r ≡ Err e → MatchResult r (λ _. P) (λ _. Q) → Q
+was-err r e P Q is on = subst (λ q. MatchResult q (λ _. P) (λ _. Q)) is on
 
-pub on-err : {A E : Type 0} (r : Result A E) (P Q : Type 0) → (P → Q) → OnErr r P → OnErr r Q
-on-err (Ok x) P Q f is = tt
-on-err (Err e) P Q f is = f is
-
-pub next-as : (p : Bool) (n : ℕ) (new levels : List Level) (o : ℕ) (items : List Item) (done : List ℕ) (root : Document)
-    → IsNext p n levels o items done root → levels ≡ new → IsNext p n new o items done root
-next-as p n new levels o items done root is same = subst (λ ls. IsNext p n ls o items done root) same is
-
-pub was-ok : {A E : Type 0} (r : Result A E) (x : A) (P : Type 0) → r ≡ Ok x → OnOk r P → P
-was-ok r x P is on = subst (λ q. OnOk q P) is on
-
-pub was-err : {A E : Type 0} (r : Result A E) (e : E) (P : Type 0) → r ≡ Err e → OnErr r P → P
-was-err r e P is on = subst (λ q. OnErr q P) is on
+-- the exit of a `?`
+pub failed : {A E : Type 0} (r : Result A E) (e : E) (P Q : Type 0) → IsErrAnd r (λ x. x ≡ e) → Q → MatchResult r (λ _. P) (λ _. Q)
+failed (Ok x) e P Q is q = absurd is
+failed (Err x) e P Q is q = q

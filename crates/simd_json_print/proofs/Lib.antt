@@ -3,7 +3,9 @@ pub mod Texts
 pub mod Growing
 pub mod Walk
 pub mod Nestings
+pub mod Lead
 pub mod Levels
+pub mod Steps
 pub mod Lines
 pub mod Runs
 pub mod Unescaped

@@ -1,15 +1,13 @@
 -- What is given between values.
-use Rattle.std.proofs.Common.{◌≡◌, ◌∙◌, ap, sym, refl, subst, ◌≤◌, ◌<◌, ◌+◌, ◌*◌, ◌/◌, ◌%◌, ℕ, not, nat_eq, Bor, List, [], ◌∷◌}
-use Rattle.std.proofs.Common.{◌++◌, append_assoc, flat_map, take, replicate, codes, arith}
+use Rattle.std.proofs.Common.{◌≡◌, ◌∙◌, ap, sym, refl, subst, ◌≤◌, ◌<◌, ◌+◌, ◌*◌, ◌/◌, ◌%◌, ℕ, not, nat_eq, Bor, List, [], ◌∷◌, ◌++◌}
+use Rattle.std.proofs.Common.{append_assoc, flat_map, take, replicate, codes, arith, ne_eqb}
 use Rattle.std.proofs.lemmas.List.{replicate-append-replicate, take-replicate}
-use Rattle.std.proofs.lemmas.Bool.{ne_eqb}
 use Rattle.std.proofs.Math.Seq.{take-append-add}
 use Rattle.simd_json_parts.specs.Bytes.{line_feed, space, quote}
 use Rattle.simd_json_parts.specs.Nodes.{item_of, string_item}
-use Rattle.simd_json_parts.specs.Printed.{escaped_byte, quoted, new_line}
+use Rattle.simd_json_parts.specs.Printed.{escaped_byte, quoted, new_line, line, after_name}
 use Rattle.simd_json_parts.specs.declared.node.Node.{Node}
 use Rattle.simd_json_parts.specs.declared.node.Node.TheVariants as nodes
-use Rattle.simd_json_parts.specs.Printed.{line, after_name}
 use Rattle.simd_json_print.specs.Texts.{TargetState, Adds}
 use Rattle.simd_json_print.specs.declared.text.Text.{Text}
 use Rattle.simd_json_print.proofs.Texts.{adds-none, adds-is}

@@ -1,8 +1,7 @@
 -- The steps of the walk, by what is left of the containers that are open.
-use Rattle.std.proofs.Common.{◌≡◌, ◌∙◌, ap, ap₂, sym, refl, subst, ◌<◌, ◌≤◌, ◌+◌, ◌-◌, ◌^◌, ◌⊎◌, inl, inr, ℕ, suc, Bool, true, false}
-use Rattle.std.proofs.Common.{cond, List}
-use Rattle.std.proofs.Common.{[], ◌∷◌, ◌++◌, length, length-append, map, min, take, drop, get_or, set}
-use Rattle.std.proofs.Common.{append_assoc, append-nil, arith}
+use Rattle.std.proofs.Common.{◌≡◌, ◌∙◌, ap, ap₂, sym, refl, subst, ◌<◌, ◌≤◌, ◌+◌, ◌-◌, ◌^◌, ◌⊎◌, inl, inr, ℕ, suc, Bool, true, false, cond}
+use Rattle.std.proofs.Common.{List, [], ◌∷◌, ◌++◌, length, length-append, map, min, take, drop, get_or, set, append_assoc, append-nil}
+use Rattle.std.proofs.Common.{arith}
 use Rattle.std.proofs.lemmas.List.{get_or-set_other, get_or-set_same, length-map, take-map, drop-map}
 use Rattle.std.proofs.lemmas.Bool.{both_ways}
 use Rattle.std.proofs.lemmas.Grind.{common_steps}
@@ -14,20 +13,18 @@ use Rattle.simd_json_parts.specs.Limits.{depth}
 use Rattle.simd_json_parts.specs.Listing.{listing, elements_listing, members_listing}
 use Rattle.simd_json_parts.specs.Nodes.{Item, string_item, item_of}
 use Rattle.simd_json_parts.specs.Headers.{count_of}
-use Rattle.simd_json_parts.specs.Printed.{quoted}
+use Rattle.simd_json_parts.specs.Printed.{quoted, line, after_name, text, elements_text, members_text}
 use Rattle.simd_json_parts.specs.declared.node.Node.{Node}
 use Rattle.simd_json_parts.specs.declared.node.Node.TheVariants as nodes
 use Rattle.simd_json_print.specs.Frames.{Frame, elements_left, members_left, has_members, frame_listing, frame_text, frames_listing}
-use Rattle.simd_json_print.specs.Frames.{frames_text, AreNested, IsBetween, IsAtValue, IsDeep, IsNext, no_level}
+use Rattle.simd_json_print.specs.Frames.{frames_text, AreNested, IsBetween, IsAtValue, IsDeep, IsNext, is_object_item, no_level}
 use Rattle.simd_json_print.specs.Layout.{leaf_text}
-use Rattle.simd_json_parts.specs.Printed.{line, after_name, text, elements_text, members_text}
 use Rattle.simd_json_print.specs.declared.document.walk.Level.{Level}
-use Rattle.simd_json_print.proofs.Walk.{IsOpened, is_object_item, is-leaf, is-opened, beneath-within, positive-depth}
-use Rattle.simd_json_print.proofs.Walk.{same-first, same-rest, split-first}
+use Rattle.simd_json_print.proofs.Walk.{IsOpened, is-leaf, is-opened, beneath-within, positive-depth, same-first, same-rest, split-first}
 
 -- ---- the first step
 
-pub at-start : (p : Bool) (n : ℕ) (levels : List Level) (count : ℕ) (items : List Item) (d : Document) → count ≡ 0 → items ≡ listing d
+at-start : (p : Bool) (n : ℕ) (levels : List Level) (count : ℕ) (items : List Item) (d : Document) → count ≡ 0 → items ≡ listing d
     → IsAtValue p n levels count items [] d
 at-start p n levels count items d none is = record {
   value = d;
@@ -39,10 +36,15 @@ at-start p n levels count items d none is = record {
   printed = append-nil (text p d (n + 0)) ∙ ap (λ k. text p d k) (omega arith);
 }
 
-pub begins : (p : Bool) (n : ℕ) (levels : List Level) (count : ℕ) (ns : List Node) (d : Document) → count ≡ 0 → map item_of ns ≡ listing d
-    → IsNext p n levels count (map item_of ns) [] d
-begins p n levels count [] d none is = absurd (omega (arith, positive d, ap length is))
-begins p n levels count (x ∷ ns) d none is = at-start p n levels count (map item_of (x ∷ ns)) d none is
+pub starts : (p : Bool) (n : ℕ) (levels : List Level) (count : ℕ) (items : List Item) (done : List ℕ) (d : Document) → count ≡ 0 → done ≡ []
+    → items ≡ listing d → IsAtValue p n levels count items done d
+starts p n levels count items done d none start is =
+    subst (λ us. IsAtValue p n levels count items us d) (sym start) (at-start p n levels count items d none is)
+
+pub begins : (p : Bool) (n : ℕ) (levels : List Level) (count : ℕ) (ns : List Node) (done : List ℕ) (d : Document) → count ≡ 0 → done ≡ []
+    → map item_of ns ≡ listing d → IsNext p n levels count (map item_of ns) done d
+begins p n levels count [] done d none start is = absurd (omega (arith, positive d, ap length is))
+begins p n levels count (x ∷ ns) done d none start is = starts p n levels count (map item_of (x ∷ ns)) done d none start is
 
 -- ---- an element or a member
 
@@ -201,12 +203,6 @@ module _ (p : Bool) (n : ℕ) (levels : List Level) (o : ℕ) (root : Document) 
   pub next-end : (items : List Item) (done : List ℕ) → items ≡ [] → done ≡ whole → IsNext p n levels o items done root
   next-end items done none is = subst (λ us. IsNext p n levels o us done root) (sym none) is
 
-  -- by its number of levels, if there is a value
-  pub next-full : (k : ℕ) (items : List Item) (done : List ℕ) → (0 < length items → o ≡ k) → IsNext p n levels o items done root
-      → IsNext p n levels k items done root
-  next-full k [] done full is = is
-  next-full k (x ∷ items) done full is = subst (λ j. IsAtValue p n levels j (x ∷ items) done root) (full (omega arith)) is
-
   -- where nothing is open
   none-left : (first : Bool) (fs : List Frame) (done : List ℕ) → length fs ≡ 0 → done ++ frames_text p n first fs ≡ whole → done ≡ whole
   none-left first [] done none is = sym (append-nil done) ∙ is
@@ -327,7 +323,7 @@ module _ (p : Bool) (n : ℕ) (levels : List Level) (o : ℕ) (root : Document) 
 
       pub open-step : (new : List Level) (level : Level) (q : ℕ) → 0 < count → o < length levels → new ≡ set levels o level
           → level.end ≡ length rest - count → level.is_object ≡ is_object_item x → q ≡ o + 1
-          → IsBetween p n new q true (map item_of rest) (done ++ []) root
+          → IsBetween p n new q true (map item_of rest) done root
       open-step new level q more room stored at_end kind counted =
           let c = opened-at more in
           let left : level.end ≡ length (frames_listing at.frames) = omega (
@@ -350,9 +346,7 @@ module _ (p : Bool) (n : ℕ) (levels : List Level) (o : ℕ) (root : Document) 
               nested-more levels (depth root) at.frames o level (omega (arith, at.number)) at.are_nested,
             );
             listed = c.after;
-            printed =
-                ap (λ us. us ++ (frame_text p (n + length at.frames) true c.frame ++ frames_text p n false at.frames)) (append-nil done)
-                ∙ ap (λ us. done ++ (us ++ frames_text p n false at.frames)) (sym c.printed) ∙ at.printed;
+            printed = ap (λ us. done ++ (us ++ frames_text p n false at.frames)) (sym c.printed) ∙ at.printed;
           }
 
       pub some-beneath : IsDeep levels o (map item_of ns) → 0 < count
@@ -380,19 +374,6 @@ module _ (p : Bool) (n : ℕ) (levels : List Level) (o : ℕ) (root : Document) 
                   ∙ ap (λ k. done ++ (text p d (n + k) ++ frames_text p n false at.frames)) (sym at.number) ∙ at.printed;
             };
           }
-
-pub is-deep : (levels : List Level) (o : ℕ) (ns first rest : List Node) (default : Node) (beneath count end : ℕ)
-    → 0 < length ns → first ≡ take 1 ns → rest ≡ drop 1 ns → beneath ≡ count_of (item_of (get_or first 0 default))
-    → count ≡ min beneath (length rest) → 0 < count → end ≡ length rest - count → (length levels ≤ o) ⊎ (2 ^ 32 ≤ end)
-    → IsDeep levels o (map item_of ns)
-is-deep levels o ns first rest default beneath count end some front back sized least more at_end lacks =
-    subst (λ us. IsDeep levels o us) (sym (split-first ns first rest default 1 some refl front back))
-    (omega (arith, sized, least, more), by-case lacks)
-  where
-    by-case : (length levels ≤ o) ⊎ (2 ^ 32 ≤ end)
-        → (length levels ≤ o) ⊎ (count_of (item_of (get_or first 0 default)) + 2 ^ 32 ≤ length (map item_of rest))
-    by-case (inl full) = inl full
-    by-case (inr great) = inr (omega (arith, great, at_end, sized, least, length-map rest item_of))
 
 -- for which there is no level, though the root has one
 pub apart-less : (levels : List Level) (o : ℕ) (ns first rest : List Node) (default : Node) (beneath count all : ℕ)
@@ -446,22 +427,3 @@ no-object (nodes.Static s) none = refl
 no-object (nodes.Decimal s) none = refl
 no-object (nodes.Array len count) none = refl
 no-object (nodes.Object len count) none = absurd (none len count refl)
-
--- ---- what was printed in two steps
-
-pub with-none : (p : Bool) (n : ℕ) (levels : List Level) (o : ℕ) (first : Bool) (items : List Item) (done : List ℕ) (root : Document)
-    → IsBetween p n levels o first items done root → IsBetween p n levels o first items (done ++ []) root
-with-none p n levels o first items done root is =
-    subst (λ us. IsBetween p n levels o first items us root) (sym (append-nil done)) is
-
-pub with-both : (p : Bool) (n : ℕ) (levels : List Level) (o : ℕ) (first : Bool) (items : List Item) (done xs ys : List ℕ) (root : Document)
-    → IsBetween p n levels o first items ((done ++ xs) ++ ys) root → IsBetween p n levels o first items (done ++ (xs ++ ys)) root
-with-both p n levels o first items done xs ys root is =
-    subst (λ us. IsBetween p n levels o first items us root) (append_assoc done xs ys) is
-
-pub three : (a b c d : List ℕ) → ((a ++ b) ++ c) ++ d ≡ a ++ ((b ++ c) ++ d)
-three a b c d = ap (λ us. us ++ d) (append_assoc a b c) ∙ append_assoc a (b ++ c) d
-
-pub next-both : (p : Bool) (n : ℕ) (levels : List Level) (o : ℕ) (items : List Item) (done xs ys : List ℕ) (root : Document)
-    → IsNext p n levels o items ((done ++ xs) ++ ys) root → IsNext p n levels o items (done ++ (xs ++ ys)) root
-next-both p n levels o items done xs ys root is = subst (λ us. IsNext p n levels o items us root) (append_assoc done xs ys) is

@@ -1,13 +1,11 @@
 -- Laws of what a text was given.
 use Rattle.std.proofs.Common.{◌≡◌, ◌<◌, ◌∙◌, ap, sym, refl, subst, arith, ℕ, Bool, true, false, List, [], ◌∷◌, ◌++◌, Option, None, Some}
-use Rattle.std.proofs.Common.{append_assoc, append-nil, length, length-append, length-drop, take, drop, take-append-drop}
+use Rattle.std.proofs.Common.{append_assoc, append-nil, length, length-append, length-drop, take, drop, take-append-drop, Result, Ok, Err}
+use Rattle.std.proofs.Common.{is_some, is_none, is_ok, OnOk, OnErr, IfNone, option_map, ◌||◌, ◌&&◌, ◌==◌, zero, suc, nat_lt}
 use Rattle.std.proofs.Math.Seq.{take-append_seam}
 use Rattle.std.proofs.lemmas.Bool.{false≢true, lt-ltb}
-use Rattle.std.specs.Prelude.{Result, Ok, Err, is_some, is_none, is_ok, OnOk, OnErr, IfNone, option_map, ◌||◌, ◌&&◌, ◌==◌, zero}
-use Rattle.std.specs.Prelude.{suc, nat_lt}
 use Rattle.std.specs.Io.KnownBytes.{Appends, Keeps}
-use Rattle.simd_json_print.specs.Texts.{TargetState, Takes, IsUnsent, failed_or, HasGiven, HasFailed, HasEnded, Adds, AddsSome}
-use Rattle.simd_json_print.specs.Texts.{IsLonger, IsPrefix}
+use Rattle.simd_json_print.specs.Texts.{TargetState, Takes, IsUnsent, failed_or, HasGiven, HasFailed, HasEnded, Adds, AddsSome, IsLonger}
 use Rattle.simd_json_print.specs.declared.text.Text.{Text}
 
 pub appends-none : (a : Option (List ℕ)) → Appends a a []
@@ -340,9 +338,3 @@ take-front n front rest =
     let all : begun ++ (drop n front ++ rest) ≡ front ++ rest =
     sym (append_assoc begun (drop n front) rest) ∙ ap (λ us. us ++ rest) (take-append-drop n front) in
     (length begun, sym (ap (take (length begun)) (sym all) ∙ take-append_seam begun (drop n front ++ rest)))
-
--- ---- a list
-
-pub longer_prefix : (xs ys : List ℕ) → IsLonger (Some xs) (Some ys) → IsPrefix xs ys
-unfolding IsLonger
-longer_prefix xs ys more = ap (take (length xs)) more.1 ∙ take-append_seam xs more.0

@@ -8,12 +8,13 @@ use Rattle.simd_json_parts.specs.Document.{Document, null, boolean, integer, dec
 use Rattle.simd_json_parts.specs.Document.{no_members, member}
 use Rattle.simd_json_parts.specs.Limits.{depth}
 use Rattle.simd_json_parts.specs.Listing.{listing, elements_listing}
-use Rattle.simd_json_parts.specs.Nodes.{Item, static_item, object_item, item_of}
+use Rattle.simd_json_parts.specs.Nodes.{Item, static_item, item_of}
 use Rattle.simd_json_parts.specs.Headers.{count_of}
 use Rattle.simd_json_parts.specs.Integers.{number_of, integer_node}
 use Rattle.simd_json_parts.specs.declared.node.Node.{Node}
 use Rattle.simd_json_parts.specs.declared.node.StaticNode.TheVariants as fixed
 use Rattle.simd_json_print.specs.Frames.{Frame, elements_left, members_left, has_members, frame_depth, frame_listing, frame_text}
+use Rattle.simd_json_print.specs.Frames.{is_object_item}
 use Rattle.simd_json_print.specs.Layout.{static_text, leaf_text}
 use Rattle.simd_json_parts.specs.Printed.{text}
 
@@ -61,10 +62,6 @@ is-leaf p n x items rest (object no_members) is none = leaf p n x _ items rest (
 is-leaf p n x items rest (array (element d ds)) is none =
     absurd (not-leaf x _ items _ rest _ is refl (omega (arith, positive d, length-append (listing d) (elements_listing ds))) none)
 is-leaf p n x items rest (object (member k d ms)) is none = absurd (not-leaf x _ items _ rest _ is refl (omega arith) none)
-
-abbrev pub is_object_item : Item → Bool
-is_object_item (object_item len count) = true
-is_object_item _ = false
 
 -- with some, it is a container's, and they are what is left of it
 pub record IsOpened (p : Bool) (n : ℕ) (x : Item) (items rest : List Item) (d : Document) : Type 0 where

@@ -5,7 +5,7 @@ use Rattle.simd_json_parts.specs.Document.{Document, Elements, Members}
 use Rattle.simd_json_parts.specs.Headers.{count_of}
 use Rattle.simd_json_parts.specs.Limits.{depth, elements_depth, members_depth}
 use Rattle.simd_json_parts.specs.Listing.{listing, elements_listing, members_listing}
-use Rattle.simd_json_parts.specs.Nodes.{Item}
+use Rattle.simd_json_parts.specs.Nodes.{Item, object_item}
 use Rattle.simd_json_parts.specs.Printed.{line, text, elements_text, members_text}
 use Rattle.simd_json_print.specs.declared.document.walk.Level.{Level}
 
@@ -41,6 +41,10 @@ frames_listing (f ∷ outer) = frame_listing f ++ frames_listing outer
 abbrev pub frames_text : Bool → ℕ → Bool → List Frame → List ℕ
 frames_text p n first [] = []
 frames_text p n first (f ∷ outer) = frame_text p (n + length outer) first f ++ frames_text p n false outer
+
+abbrev pub is_object_item : Item → Bool
+is_object_item (object_item len count) = true
+is_object_item _ = false
 
 abbrev pub no_level : Level
 no_level = record { end = 0; is_object = false }
@@ -82,3 +86,10 @@ IsNext p n levels count (x ∷ left) done root = IsAtValue p n levels count (x �
 abbrev pub IsDeep : List Level → ℕ → List Item → Type 0
 IsDeep levels count [] = ⊤
 IsDeep levels count (x ∷ left) = (0 < count_of x) × ((length levels ≤ count) ⊎ (count_of x + 2 ^ 32 ≤ length left))
+
+-- With as many levels as before, no more of them are in use than there are; and fewer nodes are left, or as many, also with those in use.
+pub record IsFurther (old : List Level) (used left : ℕ) (new : List Level) (still_used still_left : ℕ) : Type 0 where
+  pub nested : still_used ≤ length new
+  pub levels : length new ≡ length old
+  pub room : still_used + still_left ≤ used + left
+  pub within : still_left ≤ left

@@ -1,10 +1,22 @@
--- What is printed of a node that has no members. Only private clauses cite it.
-use Rattle.std.specs.Prelude.{ℕ, List, codes}
+-- What is printed in a layout, and of a node that has no members.
+use Rattle.std.specs.Prelude.{ℕ, List, codes, Bool, true, false}
 use Rattle.std.specs.Fmt.{signed_decimal, decimal as decimal_digits}
+use Rattle.simd_json_parts.specs.Document.{Document}
 use Rattle.simd_json_parts.specs.Nodes.{Item, static_item, decimal_item, string_item, array_item, object_item}
-use Rattle.simd_json_parts.specs.Printed.{truth_text, quoted}
+use Rattle.simd_json_parts.specs.Printed.{text, truth_text, quoted}
 use Rattle.simd_json_parts.specs.declared.node.StaticNode.{StaticNode}
 use Rattle.simd_json_parts.specs.declared.node.StaticNode.TheVariants as fixed
+use Rattle.simd_json_print.specs.declared.document.Layout.{Layout}
+use Rattle.simd_json_print.specs.declared.document.Layout.TheVariants as layouts
+
+abbrev pub is_pretty : Layout → Bool
+is_pretty layouts.Compact = false
+is_pretty layouts.Pretty = true
+
+abbrev pub printed : Layout → Document → List ℕ
+printed layout d = text (is_pretty layout) d 0
+
+-- Only private clauses cite what follows.
 
 abbrev pub static_text : StaticNode → List ℕ
 static_text fixed.Null = codes "null"

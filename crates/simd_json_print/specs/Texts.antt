@@ -1,8 +1,12 @@
 -- A target that takes bytes, and what a text on its way to it was given.
-use Rattle.std.specs.Prelude.{◌≡◌, ◌<◌, ℕ, List, ◌++◌, length, take, Bool, true, false, ◌||◌, ◌&&◌, ◌==◌, nat_lt, Option, None, Some}
+use Rattle.std.specs.Prelude.{◌≡◌, ◌<◌, ℕ, List, ◌++◌, length, max, take, Bool, true, false, ◌||◌, ◌&&◌, ◌==◌, nat_lt, Option, None, Some}
 use Rattle.std.specs.Prelude.{option_map, is_some, Result, Ok, Err, MatchResult, is_err}
 use Rattle.std.specs.Io.{WritesAtMost}
 use Rattle.std.specs.Io.KnownBytes.{Appends, WriteAppends}
+use Rattle.simd_json_parts.specs.Document.{Document}
+use Rattle.simd_json_parts.specs.Limits.{depth}
+use Rattle.simd_json_parts.specs.Listing.{listing}
+use Rattle.simd_json_parts.specs.Nodes.{Item}
 use Rattle.simd_json_print.specs.declared.text.Text.{Text}
 
 -- the bytes that a target holds and whether a call on it failed, each where that is known
@@ -60,6 +64,26 @@ HasEnded result start end bytes =
 -- of any bytes
 abbrev pub AddsSome : {T : Type 0} {size : ℕ} → (T → TargetState) → Text T size → Text T size → Type 0
 AddsSome state old new = (bytes : List ℕ) × Adds state old new bytes
+
+-- some bytes were given, and of a document with these nodes its text
+pub record IsPrinted {T : Type 0} {size : ℕ} (state : T → TargetState) (old new : Text T size) (items : List Item)
+    (printed : Document → List ℕ) : Type 0 where
+  pub kept : AddsSome state old new
+  pub given : (d : Document) → items ≡ listing d → Adds state old new (printed d)
+
+-- Some bytes were given, and of a document with these nodes its text; or if there is an error a beginning of it, and the document nests
+-- deeper than there were levels.
+pub record IsPrintedBy {T E : Type 0} {size : ℕ} (state : T → TargetState) (old new : Text T size) (items : List Item)
+    (printed : Document → List ℕ) (levels : ℕ) (result : Result Unit E) : Type 0 where
+  pub kept : AddsSome state old new
+  pub given : (d : Document) → items ≡ listing d → MatchResult result (λ _. Adds state old new (printed d))
+      (λ _. ((count : ℕ) × Adds state old new (take count (printed d))) × (max 64 levels < depth d))
+
+-- Some bytes were given. Where these of a document were printed before, they lead from one place in it to another.
+pub record Leads {T : Type 0} {size : ℕ} (state : T → TargetState) (old new : Text T size) (from to : List ℕ → Document → Type 0)
+    : Type 0 where
+  pub kept : AddsSome state old new
+  pub given : (done : List ℕ) (root : Document) → from done root → (more : List ℕ) × Adds state old new more × to (done ++ more) root
 
 -- of the bytes that a writer is known to hold: what it held is still in front
 unfoldable pub IsLonger : Option (List ℕ) → Option (List ℕ) → Type 0

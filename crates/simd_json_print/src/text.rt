@@ -1,14 +1,15 @@
 //! Buffered text output.
-ghost use Rattle.std.specs.Prelude.{◌≡◌, ◌≢◌, ◌++◌, ℕ, ℤ, unsigned_abs};
+ghost use Rattle.std.specs.Prelude.{◌≡◌, ◌≢◌, ◌++◌, ℕ, ℤ, unsigned_abs, None, List, [], IfNone};
+ghost use Rattle.std.specs.Prelude.{flat_map, is_some};
 ghost use Rattle.std.specs.Fmt.{decimal, signed_decimal};
-ghost use Rattle.simd_json_parts.specs.declared.node.StaticNode.TheVariants as fixed;
 ghost use Rattle.simd_json_print.specs.Texts.{HasEnded};
+ghost use Rattle.simd_json_parts.specs.Printed.{escaped_byte};
+ghost use Rattle.simd_json_parts.specs.declared.node.StaticNode.TheVariants as fixed;
 
 mod collected;
-mod stores;
 
 use crate::text::collected::Collected;
-pub use crate::text::stores::store_bytes;
+pub use crate::text::collected::store_bytes;
 use itoa::{Buffer, Integer};
 use simd_json_parts::node::StaticNode;
 use std::io;
@@ -31,8 +32,6 @@ pub trait Target {
 }
 
 impl<W: Write> Target for W {
-    ghost use Rattle.std.specs.Prelude.{None};
-
     ghost state = { λ w. record { held = W.contents w; failed = None } };
 
     fn take_some(&mut self, bytes: &[u8]) -> io::Result<usize> {
@@ -41,7 +40,8 @@ impl<W: Write> Target for W {
 }
 
 /// Buffered text output to a target. `SIZE` is the size of the buffer in bytes: it lies in the
-/// value itself, and is written when it is full, and by [`finish`](Text::finish).
+/// value itself, and is written when it is full, and by [`flush`](Text::flush) and
+/// [`finish`](Text::finish).
 ///
 /// After the target fails, or writes 0 bytes of a non-empty buffer, it is not called again, and all
 /// further text is dropped. Allocates nothing.
@@ -72,8 +72,6 @@ pub struct Text<'w, T: Target, const SIZE: usize> {
 }
 
 impl<'w, T: Target, const SIZE: usize> Text<'w, T, SIZE> {
-    ghost use Rattle.std.specs.Prelude.{◌≡◌, List, [], IfNone, flat_map, is_some};
-    ghost use Rattle.simd_json_parts.specs.Printed.{escaped_byte};
     ghost use Rattle.simd_json_print.specs.Layout.{static_text};
     ghost use Rattle.simd_json_print.specs.Texts.{TargetState, Adds, HasGiven};
 
@@ -105,7 +103,7 @@ impl<'w, T: Target, const SIZE: usize> Text<'w, T, SIZE> {
     fn put_past(&mut self, bytes: &[u8])
         ensures { Adds T.state self.old self.new bytes.now }
     {
-        self.send();
+        self.flush();
         if !self.collected.collect(bytes) && self.fault.is_none() {
             if let Err(fault) = write_all(self.target, bytes) {
                 self.fault = Some(fault);
@@ -114,8 +112,8 @@ impl<'w, T: Target, const SIZE: usize> Text<'w, T, SIZE> {
         }
     }
 
-    // Writes the collected bytes.
-    fn send(&mut self)
+    /// Writes the text so far. If the target fails, [`finish`](Text::finish) returns its error.
+    pub fn flush(&mut self)
         ensures emptied { IfNone self.new.fault (self.new.collected ≡ []) }
         ensures sent { Adds T.state self.old self.new [] }
     {

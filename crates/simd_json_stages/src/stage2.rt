@@ -24,10 +24,10 @@
 //! `fault` is how it rejects a token.
 //!
 //! Where it differs from simdjson: nodes go to a list, or to a sink of the caller's choice, not to
-//! words of a tape; strings are not copied into a buffer, but shared with the input, and decoded in place if
-//! they have escapes; a string that ends before the next backslash is not read at all, since its
-//! closing quote is the last one before the next structural index; a number with a fraction or an
-//! exponent is kept as its literal.
+//! words of a tape; strings are not copied into a buffer, but shared with the input, and decoded in
+//! place if they have escapes; a string that ends before the next backslash is not read at all,
+//! since its closing quote is the last one before the next structural index; a number with a
+//! fraction or an exponent is kept as its literal.
 ghost use Rattle.std.specs.Prelude.{◌≡◌, ◌≤◌, [], length, map, min, max, Err, OnOk};
 ghost use Rattle.std.specs.Prelude.{IfErr, vec_capacity};
 ghost use Rattle.std.specs.List.{All};
@@ -93,8 +93,8 @@ pub struct Scanned<'s> {
 /// and never `OutOfMemory`. After an error the list holds the nodes that were written before it.
 ///
 /// The list holds each [`Node`](simd_json_parts::node::Node), or a form of the caller's own that is
-/// made of it (see [`FromNode`]). `K` names the bytes of the input as they were given, for contracts
-/// (see [`Original`]). A function that is generic over it is called with
+/// made of it (see [`FromNode`]). `K` names the bytes of the input as they were given, for
+/// contracts (see [`Original`]). A function that is generic over it is called with
 /// [`Brand`](std::marker::Brand): a proof can't pick the bytes at a call with a bound that names a
 /// lifetime.
 #[inline(always)]

@@ -1,10 +1,9 @@
 //! Tokens: scalars, keys and line breaks.
 ghost use Rattle.simd_json_parts.specs.Bytes.{comma, left_brace, left_bracket, quote, space};
 ghost use Rattle.simd_json_parts.specs.Nodes.{item_of, string_item};
-ghost use Rattle.simd_json_parts.specs.Printed.{quoted, new_line};
+ghost use Rattle.simd_json_parts.specs.Printed.{quoted, new_line, line, after_name};
 ghost use Rattle.std.specs.Prelude.{◌≡◌, ◌++◌, ◌∷◌, ◌*◌, ℕ, List, [], cond, replicate};
 ghost use Rattle.simd_json_print.specs.Layout.{leaf_text};
-ghost use Rattle.simd_json_parts.specs.Printed.{line, after_name};
 ghost use Rattle.simd_json_print.specs.Texts.{Adds, AddsSome};
 
 use crate::text::{Target, Text};

@@ -1,9 +1,8 @@
 use Rattle.std.proofs.Common.{◌∙◌, ◌∷◌, ◌++◌, [], cond, ap, sym, append-nil, not, nat_eq}
 use Rattle.simd_json_parts.specs.Bytes.{left_bracket, comma}
 use Rattle.simd_json_parts.specs.Nodes.{item_of}
-use Rattle.simd_json_parts.specs.Printed.{quoted}
+use Rattle.simd_json_parts.specs.Printed.{quoted, line}
 use Rattle.simd_json_print.specs.Layout.{leaf_text}
-use Rattle.simd_json_parts.specs.Printed.{line}
 use Rattle.simd_json_print.proofs.Lines.{adds-a-line, adds-front, adds-string}
 use Rattle.simd_json_print.proofs.Texts.{adds-is, adds-then}
 use Rattle.simd_json_print.proofs.document.scalar.put_element.Goals as goal

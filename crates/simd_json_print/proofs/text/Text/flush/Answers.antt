@@ -1,6 +1,6 @@
 use Rattle.std.proofs.Common.{refl, sym, append-nil, rules, ◌∙◌, []}
 use Rattle.simd_json_print.proofs.Texts.{adds-failed}
-use Rattle.simd_json_print.proofs.text.Text.send.Goals as goal
+use Rattle.simd_json_print.proofs.text.Text.flush.Goals as goal
 
 pub returns-in-Err-clause-sent : goal.returns-in-Err-clause-sent
 returns-in-Err-clause-sent g c =

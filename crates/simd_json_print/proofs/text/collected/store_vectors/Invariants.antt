@@ -1,6 +1,6 @@
 use Rattle.std.proofs.Common.{◌≡◌, ◌≤◌, ◌+◌, ◌-◌, ◌++◌, length, take}
 use Rattle.simd_json_print.specs.Unescaped.{AreUnescaped}
-use Rattle.simd_json_print.proofs.text.stores.store_vectors.Given as goal
+use Rattle.simd_json_print.proofs.text.collected.store_vectors.Given as goal
 
 abbrev pub invariant-loop-done : goal.invariant-loop-done
 invariant-loop-done g l = record {

@@ -2,7 +2,7 @@ use Rattle.std.proofs.Common.{◌≡◌, ◌+◌, ◌-◌, ◌∙◌, ◌++◌, 
 use Rattle.simd_json_parts.specs.Printed.{escaped_byte}
 use Rattle.simd_json_print.proofs.Stores.{stored-run}
 use Rattle.simd_json_print.proofs.Unescaped.{front-within, unescaped-front, unescaped-vector, unescaped-prefix, unescaped-further}
-use Rattle.simd_json_print.proofs.text.stores.store_vectors.Goals as goal
+use Rattle.simd_json_print.proofs.text.collected.store_vectors.Goals as goal
 
 pub returns-then-escapes-ne0-clause-within : goal.returns-then-escapes-ne0-clause-within
 returns-then-escapes-ne0-clause-within g c =

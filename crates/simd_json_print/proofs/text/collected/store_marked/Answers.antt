@@ -1,7 +1,7 @@
 use Rattle.simd_json_print.proofs.Stores.{stored-vector, behind-vector}
 use Rattle.std.proofs.lemmas.Simd.{length-chunk}
 use Rattle.simd_json_print.proofs.Unescaped.{mask-three}
-use Rattle.simd_json_print.proofs.text.stores.store_marked.Goals as goal
+use Rattle.simd_json_print.proofs.text.collected.store_marked.Goals as goal
 
 pub returns-clause-stored : goal.returns-clause-stored
 returns-clause-stored g c = stored-vector c.args.all.now c.args.bytes.now c.args.at c.args.from g.row.N c.requires.some c.requires.room

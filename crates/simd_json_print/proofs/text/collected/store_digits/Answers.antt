@@ -3,7 +3,7 @@ use Rattle.std.proofs.lemmas.Fmt.{decimal_digit}
 use Rattle.std.proofs.lemmas.List.{take_more_set}
 use Rattle.std.specs.Fmt.{decimal}
 use Rattle.simd_json_print.proofs.Decimals.{digits-count, stored-digits}
-use Rattle.simd_json_print.proofs.text.stores.store_digits.Goals as goal
+use Rattle.simd_json_print.proofs.text.collected.store_digits.Goals as goal
 
 pub returns-then-number-lt10-clause-end : goal.returns-then-number-lt10-clause-end
 returns-then-number-lt10-clause-end c = ap (λ us. c.args.at + length us) (sym (decimal_digit c.args.number c.if-number-lt10.true))

@@ -2,7 +2,7 @@ use Rattle.std.proofs.Common.{arith, length, sym, ◌∙◌}
 use Rattle.std.proofs.lemmas.Bool.{and_parts, eqb-true}
 use Rattle.simd_json_print.proofs.Stores.{stored-ends, behind-ends}
 use Rattle.simd_json_print.proofs.Unescaped.{unescaped-overlap, unescaped-vector}
-use Rattle.simd_json_print.proofs.text.stores.store_ends.Goals as goal
+use Rattle.simd_json_print.proofs.text.collected.store_ends.Goals as goal
 
 pub returns : goal.returns
 returns g c =
