@@ -6,5 +6,6 @@ pub mod Scalars
 pub mod Whole
 -- Where an input is wrong and why, for people.
 pub mod Locations
+pub mod Openings
 pub mod Reasons
 pub mod Messages

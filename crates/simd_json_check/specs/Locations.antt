@@ -1,5 +1,5 @@
 -- Where an input is wrong, for people: the byte, the line and the column of an error.
-use Rattle.std.specs.Prelude.{ℕ, suc, ◌+◌, List, length, take, count_by, Bool, ◌&&◌, ◌||◌, ◌==◌, nat_lt, nat_le, Some, None, Option}
+use Rattle.std.specs.Prelude.{ℕ, suc, ◌+◌, ◌-◌, ◌^◌, min, List, length, take, count_by, Bool, ◌&&◌, ◌||◌, ◌==◌, nat_lt, nat_le, Some, None, Option}
 use Rattle.std.specs.List.{after_last, position_or_len}
 use Rattle.std.specs.Str.Lossy.{utf8_valid_len}
 use Rattle.simd_json_parts.specs.Bytes.{line_feed, is_control, byte_at, indices}
@@ -21,6 +21,10 @@ begins_character c = nat_lt c 0x80 || nat_le 0xc0 c
 -- the line of byte i: from 1, by line feeds
 abbrev pub line_at : List ℕ → ℕ → ℕ
 line_at b i = count_by is_line_feed (take i b) + 1
+
+-- the line of a file, as far as 64 bits hold it, of a line of a text that begins in line `first`
+abbrev pub file_line : ℕ → ℕ → ℕ
+file_line first line = min (first + (line - 1)) (2 ^ 64 - 1)
 
 -- what stands before byte i in its line
 abbrev pub line_before : List ℕ → ℕ → List ℕ

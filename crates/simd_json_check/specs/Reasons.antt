@@ -5,7 +5,8 @@ use Rattle.std.specs.Char.{is_ascii_digit, is_digit}
 use Rattle.std.specs.Option.{option_map}
 use Rattle.std.specs.Result.{result_err}
 use Rattle.std.specs.Str.Lossy.{utf8_valid_len}
-use Rattle.simd_json_check.specs.Locations.{is_control_inside, bad_string, next_position, place_of, line_at, column_of}
+use Rattle.simd_json_check.specs.Locations.{is_control_inside, bad_string, next_position, place_of, line_at, column_of, file_line}
+use Rattle.simd_json_check.specs.Openings.{opening_in, opening_of}
 use Rattle.simd_json_check.specs.declared.location.Location.{Location}
 use Rattle.simd_json_check.specs.declared.location.reason.Reason.{Reason}
 use Rattle.simd_json_check.specs.declared.location.reason.Reason.TheVariants as reasons
@@ -114,10 +115,33 @@ shown_byte b e _ = place_of b e
 
 abbrev pub located : List ℕ → Error → Reason → ℕ → Location
 located b e reason byte =
-    record { error = e; byte = byte; line = line_at b byte; column = column_of b byte; reason = reason }
+    record {
+      error = e;
+      byte = byte;
+      line = line_at b byte;
+      column = column_of b byte;
+      reason = reason;
+      opening = opening_of b byte reason;
+    }
 
 unfoldable pub location_of : List ℕ → Error → Location
 location_of b e = located b e (reason_of b e) (shown_byte b e (reason_of b e))
+
+-- in a file of which the input begins in line `first`
+abbrev pub location_in : ℕ → Location → Location
+location_in first l = record {
+  error = l.error;
+  byte = l.byte;
+  line = file_line first l.line;
+  column = l.column;
+  reason = l.reason;
+  opening = option_map (opening_in first) l.opening;
+}
+
+-- a parse has two kinds for more text after the document, by what its root is; people are shown one
+abbrev pub shown_kind : Reason → ErrorType → ErrorType
+shown_kind reasons.MoreText kind = errors.TrailingData
+shown_kind _ kind = kind
 
 -- what is found in an input: the location of its error, if it has one
 abbrev pub found_in : List ℕ → ℕ → Option Location

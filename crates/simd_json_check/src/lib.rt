@@ -52,6 +52,6 @@ mod location;
 mod nested;
 
 pub use check::Checker;
-pub use location::{Location, Reason, locate};
+pub use location::{Location, Message, Opened, Opening, Reason, ShownKind, locate};
 pub use simd_json_parts::error::{Error, ErrorType, Result};
 pub use simd_json_stages::{DEFAULT_MAX_DEPTH, Index};

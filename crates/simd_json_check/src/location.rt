@@ -1,25 +1,30 @@
 //! Where an input is wrong and why, for people.
 ghost use Rattle.std.specs.Prelude.{◌≡◌, ◌≤◌, length, IfOk, OnErr};
 ghost use Rattle.simd_json_check.specs.Checkers.{KeepsChecker};
-ghost use Rattle.simd_json_check.specs.Reasons.{found_in, location_of, shown_byte};
+ghost use Rattle.simd_json_check.specs.Reasons.{found_in, location_in, location_of, shown_byte};
 ghost use Rattle.simd_json_parts.specs.Limits.{max_length};
 
 mod context;
 mod display;
+mod opening;
 mod place;
 mod reason;
 mod scan;
 
 use crate::check::Checker;
 use context::reason_for;
-use place::{byte_of, column, line};
+pub use display::{Message, ShownKind};
+use opening::opening_of;
+pub use opening::{Opened, Opening};
+use place::{byte_of, column, file_line, line};
 pub use reason::Reason;
 use scan::next_position;
 use simd_json_parts::error::{Error, ErrorType};
 use std::alloc::{AllocError, Allocator};
 
 /// An error, and for people where it is in the input and why: a line and a column for an editor,
-/// and a [`Reason`] in words.
+/// and a [`Reason`] with the [`Opening`] of what is open there. It prints as
+/// `1:10: a line feed in the string that begins at 1:7`.
 #[derive(Debug, Drop, PartialEq, Eq)]
 pub struct Location {
     error: Error,
@@ -27,6 +32,7 @@ pub struct Location {
     line: usize,
     column: usize,
     reason: Reason,
+    opening: Option<Opening>,
 }
 
 impl Location {
@@ -66,6 +72,19 @@ impl Location {
             line: line(input, byte),
             column: column(input, byte),
             reason,
+            opening: opening_of(input, byte, reason),
+        }
+    }
+
+    /// The location in a file of which the input begins in line `first`: all lines are those of the
+    /// file, as far as 64 bits hold them.
+    pub fn in_file(self, first: usize) -> Location
+        ensures { result ≡ location_in first self }
+    {
+        Location {
+            line: file_line(first, self.line),
+            opening: self.opening.map(|opening| opening.in_file(first)),
+            ..self
         }
     }
 
@@ -74,6 +93,14 @@ impl Location {
         ensures { result.now ≡ self.now.error }
     {
         &self.error
+    }
+
+    /// What prints the kind of the error as people are shown it. A parse has two for more text after
+    /// the document, by what its root is; both print as `TrailingData`.
+    pub fn kind(&self) -> ShownKind<'_>
+        ensures { result.location.now ≡ self.now }
+    {
+        ShownKind { location: self }
     }
 
     /// The byte offset of the place.
@@ -102,6 +129,24 @@ impl Location {
         ensures { result ≡ self.now.reason }
     {
         self.reason
+    }
+
+    /// What is open at the place, if the reason is a control character or the end of the input.
+    pub fn opening(&self) -> Option<Opening>
+        ensures { result ≡ self.now.opening }
+    {
+        self.opening
+    }
+
+    /// The reason in words, with what is open there.
+    pub fn message(&self) -> Message
+        ensures reason { result.reason ≡ self.now.reason }
+        ensures opening { result.opening ≡ self.now.opening }
+    {
+        Message {
+            reason: self.reason,
+            opening: self.opening,
+        }
     }
 }
 

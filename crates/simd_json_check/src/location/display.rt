@@ -1,5 +1,6 @@
 //! What is printed of a location and of a reason.
-use super::{Location, Reason};
+use super::{Location, Opened, Opening, Reason};
+use simd_json_parts::error::ErrorType;
 use std::fmt;
 
 // A byte, as the visible character of ASCII that it is or by its number.
@@ -22,6 +23,57 @@ impl fmt::Display for Shown {
     }
 }
 
+// A control byte.
+#[derive(Clone, Copy)]
+struct Control(u8);
+
+impl fmt::Display for Control {
+    ghost use Rattle.std.specs.Prelude.{Some};
+    ghost use Rattle.simd_json_check.specs.Messages.{control_text};
+
+    ghost output = { λ control. Some (control_text control.0) };
+
+    fn fmt<W: fmt::Write>(&self, f: &mut fmt::Formatter<W>) -> fmt::Result {
+        match self.0 {
+            b'\t' => f.write_str("a tab"),
+            b'\n' => f.write_str("a line feed"),
+            b'\r' => f.write_str("a carriage return"),
+            c => write!(f, "control character {c}"),
+        }
+    }
+}
+
+impl fmt::Display for Opened {
+    ghost use Rattle.std.specs.Prelude.{Some};
+    ghost use Rattle.simd_json_check.specs.Messages.{opened_text};
+
+    ghost output = { λ opened. Some (opened_text opened) };
+
+    fn fmt<W: fmt::Write>(&self, f: &mut fmt::Formatter<W>) -> fmt::Result {
+        f.write_str(match self {
+            Opened::String => "string",
+            Opened::Array => "array",
+            Opened::Object => "object",
+        })
+    }
+}
+
+impl fmt::Display for Opening {
+    ghost use Rattle.std.specs.Prelude.{Some};
+    ghost use Rattle.simd_json_check.specs.Messages.{opening_text};
+
+    ghost output = { λ opening. Some (opening_text opening) };
+
+    fn fmt<W: fmt::Write>(&self, f: &mut fmt::Formatter<W>) -> fmt::Result {
+        let Opening {
+            opened,
+            line,
+            column,
+        } = *self;
+        write!(f, "the {opened} that begins at {line}:{column}")
+    }
+}
+
 impl fmt::Display for Reason {
     ghost use Rattle.std.specs.Prelude.{Some};
     ghost use Rattle.simd_json_check.specs.Messages.{reason_text};
@@ -31,7 +83,7 @@ impl fmt::Display for Reason {
     fn fmt<W: fmt::Write>(&self, f: &mut fmt::Formatter<W>) -> fmt::Result {
         let text = match *self {
             Reason::NotUtf8(c) => return write!(f, "{} begins no UTF-8 character", Shown(c)),
-            Reason::ControlCharacter(c) => return write!(f, "control character {c} in a string"),
+            Reason::ControlCharacter(c) => return write!(f, "{} in a string", Control(c)),
             Reason::ExpectedValue(c) => return write!(f, "expected a value, found {}", Shown(c)),
             Reason::ExpectedElementEnd(c) => {
                 return write!(
@@ -81,6 +133,52 @@ impl fmt::Display for Reason {
     }
 }
 
+/// Why an input is rejected, in words, with what is open there: [`Location::message`].
+#[derive(Clone, Copy)]
+pub struct Message {
+    pub(super) reason: Reason,
+    pub(super) opening: Option<Opening>,
+}
+
+impl fmt::Display for Message {
+    ghost use Rattle.std.specs.Prelude.{Some};
+    ghost use Rattle.simd_json_check.specs.Messages.{message_text};
+
+    ghost output = { λ message. Some (message_text message.reason message.opening) };
+
+    fn fmt<W: fmt::Write>(&self, f: &mut fmt::Formatter<W>) -> fmt::Result {
+        match (self.reason, self.opening) {
+            (Reason::ControlCharacter(c), Some(opening)) => {
+                write!(f, "{} in {opening}", Control(c))
+            }
+            (Reason::EndOfInput, Some(opening)) => {
+                write!(f, "the input ends after this, within {opening}")
+            }
+            (reason, _) => write!(f, "{reason}"),
+        }
+    }
+}
+
+/// The kind of an error as people are shown it: [`Location::kind`].
+#[derive(Clone, Copy)]
+pub struct ShownKind<'a> {
+    pub(super) location: &'a Location,
+}
+
+impl fmt::Display for ShownKind<'_> {
+    ghost use Rattle.std.specs.Prelude.{Some};
+    ghost use Rattle.simd_json_check.specs.Messages.{kind_words};
+
+    ghost output = { λ kind. Some (kind_words kind.location.now) };
+
+    fn fmt<W: fmt::Write>(&self, f: &mut fmt::Formatter<W>) -> fmt::Result {
+        match self.location.reason {
+            Reason::MoreText => write!(f, "{}", ErrorType::TrailingData),
+            _ => write!(f, "{}", self.location.error.error()),
+        }
+    }
+}
+
 impl fmt::Display for Location {
     ghost use Rattle.std.specs.Prelude.{Some};
     ghost use Rattle.simd_json_check.specs.Messages.{location_text};
@@ -88,6 +186,6 @@ impl fmt::Display for Location {
     ghost output = { λ location. Some (location_text location) };
 
     fn fmt<W: fmt::Write>(&self, f: &mut fmt::Formatter<W>) -> fmt::Result {
-        write!(f, "{}:{}: {}", self.line, self.column, self.reason)
+        write!(f, "{}:{}: {}", self.line, self.column, self.message())
     }
 }

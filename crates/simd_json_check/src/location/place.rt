@@ -2,9 +2,8 @@
 ghost use Rattle.std.specs.Prelude.{◌≡◌, ◌-◌, not, length};
 ghost use Rattle.std.specs.List.{suffix_len};
 ghost use Rattle.std.specs.Str.Lossy.{utf8_valid_len};
-ghost use Rattle.simd_json_check.specs.Locations.{begins_character, column_of, is_line_feed};
-ghost use Rattle.simd_json_check.specs.Locations.{line_at};
-ghost use Rattle.simd_json_check.specs.Locations.{place_of, whole_place};
+ghost use Rattle.simd_json_check.specs.Locations.{begins_character, column_of, file_line};
+ghost use Rattle.simd_json_check.specs.Locations.{is_line_feed, line_at, place_of, whole_place};
 
 use super::scan::bad_string;
 use simd_json_parts::error::{Error, ErrorType};
@@ -48,6 +47,13 @@ pub(super) fn line(input: &[u8], byte: usize) -> usize
 {
     let before = &input[..byte.min(input.len())];
     before.iter().filter(|c| **c == b'\n').count() + 1
+}
+
+// The line of a file of a line of a text that begins in its line `first`.
+pub(super) fn file_line(first: usize, line: usize) -> usize
+    ensures { result ≡ file_line first line }
+{
+    first.saturating_add(line.saturating_sub(1))
 }
 
 pub(super) fn column(input: &[u8], byte: usize) -> usize

@@ -22,7 +22,7 @@ pub enum Reason {
     ByteOrderMark,
     /// There is more text after the document.
     MoreText,
-    /// The input ends within the document; the place is its last token.
+    /// The input ends within the document, after the token at the place.
     EndOfInput,
     /// A value was expected.
     ExpectedValue(u8),

@@ -1,7 +1,8 @@
 //! A scan of an input, byte by byte, that knows what is inside strings.
-ghost use Rattle.std.specs.Prelude.{◌≡◌, ◌&&◌, ◌||◌, ◌==◌, not, if◌then◌else◌};
+ghost use Rattle.std.specs.Prelude.{◌≡◌, ◌<◌, ◌+◌, ◌^◌, ◌&&◌, ◌||◌, ◌==◌, length, not, if◌then◌else◌};
 ghost use Rattle.simd_json_check.specs.Locations.{bad_string, first_index, is_control_inside};
 ghost use Rattle.simd_json_check.specs.Locations.{is_left_open, next_position};
+ghost use Rattle.simd_json_check.specs.Openings.{last_below, open_after, open_before, open_bracket};
 ghost use Rattle.simd_json_parts.specs.Bytes.{is_structural, is_whitespace};
 
 use simd_json_parts::charutils::{is_structural_or_whitespace, is_whitespace};
@@ -64,7 +65,7 @@ fn control_inside(input: &[u8]) -> usize
 }
 
 // The opening quote of the string that is left open, or the length.
-fn open_quote(input: &[u8]) -> usize
+pub(super) fn open_quote(input: &[u8]) -> usize
     ensures { result ≡ first_index (is_left_open input.now) input.now }
 {
     let mut strings = Strings::NONE;
@@ -77,6 +78,46 @@ fn open_quote(input: &[u8]) -> usize
         }
     }
     open
+}
+
+// The bracket of the innermost container that is open at the end.
+pub(super) fn open_bracket(input: &[u8]) -> Option<usize>
+    ensures { result ≡ open_bracket input.now }
+{
+    let (count, _) = containers(input, 0);
+    let (_, bracket) = containers(input, count);
+    bracket
+}
+
+// How many containers are open at the end, and the last byte before which fewer than `level` are.
+fn containers(input: &[u8], level: usize) -> (usize, Option<usize>)
+    ensures count { result.0 ≡ open_before input.now (length input.now) }
+    ensures below { result.1 ≡ last_below input.now level (length input.now) }
+{
+    let mut strings = Strings::NONE;
+    let (mut count, mut below) = (0, None);
+    for (i, byte) in input.iter().enumerate() {
+        strings = strings.after(*byte);
+        if count < level {
+            below = Some(i);
+        }
+        if !strings.is_inside {
+            count = open_after(*byte, count);
+        }
+    }
+    (count, below)
+}
+
+// How many containers are open after a byte outside strings.
+fn open_after(byte: u8, count: usize) -> usize
+    requires { count + 1 < 2 ^ 64 }
+    ensures { result ≡ open_after byte count }
+{
+    match byte {
+        b'[' | b'{' => count + 1,
+        b']' | b'}' => count.saturating_sub(1),
+        _ => count,
+    }
 }
 
 // The structural index after index i, or the length.
