@@ -1,7 +1,5 @@
 -- Nodes in memory that grows, one more at a time.
-use Rattle.std.proofs.Common.{◌≡◌, ◌∙◌, ap, sym, ℕ, ◌<◌, ◌+◌, refl, arith, List, [], ◌∷◌, ◌++◌, length, map}
-use Rattle.std.proofs.Common.{zero, suc}
-use Rattle.std.specs.Prelude.{slice_set}
+use Rattle.std.proofs.Common.{◌≡◌, ◌∙◌, ap, sym, ℕ, ◌<◌, ◌+◌, refl, arith, List, [], ◌∷◌, ◌++◌, length, map, zero, suc, slice_set}
 use Rattle.std.proofs.lemmas.List.{length-append, length-map, map-append, map-set}
 use Rattle.simd_json_stages.specs.Placed.{Placed}
 

@@ -2,6 +2,7 @@
 pub mod Listed
 pub mod Split
 pub mod Descending
+pub mod Containers
 pub mod Beneath
 pub mod Compared
 pub mod MapCompared

@@ -1,6 +1,7 @@
 -- A document and the documents beneath it, in the order of the text: each before those beneath it. The name of a pair
 -- is none of them.
-use Rattle.std.specs.Prelude.{ℕ, zero, suc, List, [], ◌∷◌, ◌++◌, flat_map}
+use Rattle.std.specs.Prelude.{ℕ, zero, suc, List, [], ◌∷◌, ◌++◌, filter, flat_map}
+use Rattle.simd_json_parts.specs.Descent.{is_container}
 use Rattle.simd_json_parts.specs.Document.{Document, array, object, Elements, no_elements, element, elements, Members, no_members, member}
 use Rattle.simd_json_parts.specs.Views.{values}
 
@@ -29,3 +30,8 @@ abbrev mutual
   pub among_members : Members → List Document
   among_members no_members = []
   among_members (member k d ms) = descendants d ++ among_members ms
+
+-- ---- the arrays and objects among them
+
+abbrev pub containers : Document → List Document
+containers d = filter is_container (descendants d)

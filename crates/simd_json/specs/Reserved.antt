@@ -3,8 +3,7 @@ use Rattle.std.specs.Prelude.{◌≡◌, ◌≤◌, ℕ, ◌*◌, ◌-◌, List,
 use Rattle.simd_json_parts.specs.Nodes.{Item}
 use Rattle.simd_json_parts.specs.declared.error.Error.{Error}
 use Rattle.simd_json.specs.Capacities.{Capacities, KeepsCapacities, capacity}
-use Rattle.simd_json.specs.Parsed.{HasMemory}
-use Rattle.simd_json.specs.Parsed.{IsParse}
+use Rattle.simd_json.specs.Parsed.{HasMemory, IsParse}
 use Rattle.simd_json.specs.Tapes.{Listed}
 
 -- the greatest number of bytes for which `nodes_enough` asks for no more than so many nodes, with so many containers open

@@ -1,7 +1,6 @@
 //! The memory that parses use one after another: what the first stage lists, and the stack of the
 //! second.
-ghost use Rattle.std.specs.Prelude.{◌≡◌, ◌≤◌, ◌<◌, ◌⊎◌, [], length};
-ghost use Rattle.std.specs.Prelude.{OnOk, OnErr, IfOk, IfErr, Some};
+ghost use Rattle.std.specs.Prelude.{◌≡◌, ◌≤◌, ◌<◌, ◌⊎◌, [], length, OnOk, OnErr, IfOk, IfErr, Some};
 ghost use Rattle.simd_json.specs.Capacities.{HoldsScan, KeepsCapacities, ListsSame, capacity};
 ghost use Rattle.simd_json.specs.Capacities.{new_buffers, with_room};
 ghost use Rattle.simd_json_stages.specs.Capacities.{IsOutOfMemory, LacksMemory, capped};

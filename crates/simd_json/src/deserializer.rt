@@ -1,6 +1,5 @@
 //! Steps through the nodes of a tape, one after another.
-ghost use Rattle.std.specs.Prelude.{◌≡◌, ◌≢◌, ◌<◌, ◌↔◌, ◌+◌, [], ℕ};
-ghost use Rattle.std.specs.Prelude.{List, length, slice_get};
+ghost use Rattle.std.specs.Prelude.{◌≡◌, ◌≢◌, ◌<◌, ◌↔◌, ◌+◌, [], ℕ, List, length, slice_get};
 ghost use Rattle.std.specs.Prelude.{IsFalse, IfOk, Some};
 ghost use Rattle.std.specs.Result.{result_err};
 ghost use Rattle.simd_json_parts.specs.Views.{ok_map};

@@ -1,12 +1,11 @@
 //! Laws of the statement that all entry points share, and of the documents of values. Each function
 //! has an empty body: its contract is the law.
-ghost use Rattle.std.specs.Prelude.{◌≡◌, ◌≤◌, ◌↔◌, ◌∷◌, ℕ, List, length};
-ghost use Rattle.std.specs.Prelude.{take};
-ghost use Rattle.std.specs.Prelude.{Option, Some, None, Ok, IsSome};
+ghost use Rattle.std.specs.Prelude.{◌≡◌, ◌≤◌, ◌↔◌, ◌∷◌, ℕ, List, length, take, Option, Some, None};
+ghost use Rattle.std.specs.Prelude.{Ok, IsSome};
 ghost use Rattle.std.specs.Result.{result_err};
 ghost use Rattle.simd_json.specs.Beneath.{beneath, descendants};
-ghost use Rattle.simd_json.specs.Parsed.{HasMemory};
-ghost use Rattle.simd_json.specs.Parsed.{IsPaddedParse, IsParse, IsRejected, answered_nodes};
+ghost use Rattle.simd_json.specs.Parsed.{HasMemory, IsPaddedParse, IsParse, IsRejected};
+ghost use Rattle.simd_json.specs.Parsed.{answered_nodes};
 ghost use Rattle.simd_json_stages.specs.Capacities.{positions_after};
 ghost use Rattle.simd_json.specs.Capacities.{KeepsCapacities, Capacities, capacity};
 ghost use Rattle.simd_json_parts.specs.Answer.{answer};

@@ -36,6 +36,7 @@
 //! | keep them in a list | [`keep_spans`] with a [`SpanNode`] |
 //! | look at values | [`Value`](tape::Value), [`Array`](tape::Array), [`Object`](tape::Object) |
 //! | visit all values | [`Value::descendants`](tape::Value::descendants) |
+//! | visit all arrays and objects | [`Value::containers`](tape::Value::containers) |
 //! | follow a JSON Pointer (RFC 6901) | [`Value::pointer`](tape::Value::pointer), [`Pointer`] |
 //! | step through the nodes | [`Deserializer`], [`Tape::nodes`] |
 //! | print a value | [`encode`](tape::Value::encode), [`write`](tape::Value::write) |

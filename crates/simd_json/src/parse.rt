@@ -1,16 +1,14 @@
 //! The entry points that make a tape. Each finds the structural indexes of its input into the
 //! buffers (`find_positions`), and then builds nodes from them (`build`).
-ghost use Rattle.std.specs.Prelude.{◌≡◌, ◌≢◌, ◌≤◌, ◌<◌, [], ℕ, List};
-ghost use Rattle.std.specs.Prelude.{length, map, vec_capacity};
+ghost use Rattle.std.specs.Prelude.{◌≡◌, ◌≢◌, ◌≤◌, ◌<◌, [], ℕ, List, length, map, vec_capacity};
 ghost use Rattle.std.specs.Prelude.{IfErr, IfOk, OnOk, OnErr, None, Err, ◌⊎◌};
 ghost use Rattle.std.specs.Result.{result_err};
-ghost use Rattle.simd_json.specs.Parsed.{IsPaddedParse, IsParse, IsParseResult};
-ghost use Rattle.simd_json.specs.Parsed.{nodes_of};
+ghost use Rattle.simd_json.specs.Parsed.{IsPaddedParse, IsParse, IsParseResult, nodes_of};
+ghost use Rattle.simd_json.specs.Parsed.{HasMemory};
 ghost use Rattle.simd_json.specs.Capacities.{HoldsScan, KeepsCapacities, ListsSame, capacity};
 ghost use Rattle.simd_json.specs.Capacities.{with_room};
-ghost use Rattle.simd_json_stages.specs.Capacities.{IsOutOfMemory, LacksMemory};
-ghost use Rattle.simd_json_stages.specs.Capacities.{capped, default_max_depth};
-ghost use Rattle.simd_json.specs.Parsed.{HasMemory};
+ghost use Rattle.simd_json_stages.specs.Capacities.{IsOutOfMemory, LacksMemory, capped};
+ghost use Rattle.simd_json_stages.specs.Capacities.{default_max_depth};
 ghost use Rattle.simd_json.specs.Reserved.{IsReserved, parse_capacity};
 ghost use Rattle.simd_json_parts.specs.Descent.{descent};
 ghost use Rattle.simd_json_parts.specs.Limits.{max_length};

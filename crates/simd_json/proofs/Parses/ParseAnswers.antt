@@ -1,6 +1,6 @@
 -- What a parse leaves is what the definitions answer.
-use Rattle.std.proofs.Common.{◌≡◌, ◌∙◌, ap, sym, subst, ◌<◌, ◌≤◌, ℕ, List, [], length, take, Some, None, Option, arith, ◌⊎◌, inl}
-use Rattle.std.proofs.Common.{inr, ◌↔◌, IsSome, MatchOption}
+use Rattle.std.proofs.Common.{◌≡◌, ◌∙◌, ap, sym, subst, ◌<◌, ◌≤◌, ℕ, List, [], length, take, Some, None, Option, arith, ◌⊎◌, inl, inr, ◌↔◌}
+use Rattle.std.proofs.Common.{IsSome, MatchOption}
 use Rattle.std.specs.Result.{result_err}
 use Rattle.std.proofs.lemmas.Bool.{false≢true}
 use Rattle.std.proofs.lemmas.Option.{none-some}
@@ -13,8 +13,7 @@ use Rattle.simd_json_parts.specs.Nodes.{Item}
 use Rattle.simd_json_parts.specs.declared.error.Error.{Error}
 use Rattle.simd_json_parts.specs.declared.error.ErrorType.TheVariants.{OutOfMemory}
 use Rattle.simd_json_stages.specs.Capacities.{IsOutOfMemory, LacksMemory, positions_after}
-use Rattle.simd_json.specs.Parsed.{HasMemory}
-use Rattle.simd_json.specs.Parsed.{IsParse, IsPaddedParse, IsRejected, answered_nodes}
+use Rattle.simd_json.specs.Parsed.{HasMemory, IsParse, IsPaddedParse, IsRejected, answered_nodes}
 use Rattle.simd_json.proofs.Parses.ParseEnds.{input-character, input-memory, token-memory}
 
 abbrev AsAnswered : List ℕ → ℕ → Option Error → List Item → List ℕ → Type 0

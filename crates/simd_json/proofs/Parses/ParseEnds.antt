@@ -93,10 +93,6 @@ pub err-of : {A : Type 0} (r : Result A Error) (e : Error) → IsErrAnd r (λ x.
 err-of (Ok x) e is = absurd is
 err-of (Err x) e is = ap Some is
 
-pub on-err : {A E : Type 0} (r : Result A E) (P : Type 0) → P → OnErr r P
-on-err (Ok x) P p = tt
-on-err (Err e) P p = p
-
 -- nothing is listed, and there is no node, where the first stage rejects, or a list has no capacity
 pub parse-unread : {A : Type 0} (r : Result A Error) (b : List ℕ) (limit least capacity : ℕ) (e : Error) (nodes : List Item)
     (listed : List ℕ) → IsErrAnd r (λ x. x ≡ e) → nodes ≡ [] → listed ≡ [] → least ≤ capacity
@@ -161,12 +157,6 @@ short-stack r count n l m =
     subst (λ t. cond t (min (lists.capacity r.index) r.stack_capacity) (lists.capacity r.index) < n)
     (sym (lt-ltb r.stack_capacity r.limit (omega (arith, l))))
     (omega (arith, l, m))
-
--- and so do lists that are too short
-pub short-index : (r : Capacities) (n : ℕ) → lists.capacity r.index < n → capacity r < n
-short-index r n l =
-    cond_both (nat_lt r.stack_capacity r.limit) (min (lists.capacity r.index) r.stack_capacity) (lists.capacity r.index) (λ k. k < n)
-    (λ _. omega (arith, l)) (λ _. l)
 
 open-kept : (t t2 : Bool) (p s l p2 s2 l2 : ℕ) → nat_lt s l ≡ t → nat_lt s2 l2 ≡ t2 → l2 ≡ l → p ≤ p2 → s ≤ s2
     → cond t (min p s) p ≤ cond t2 (min p2 s2) p2

@@ -1,12 +1,11 @@
 -- What a reservation of buffers and tape is for.
-use Rattle.std.proofs.Common.{◌≡◌, ◌∙◌, refl, sym, subst, ◌<◌, ◌≤◌, ℕ, List, length, arith, min, max, Option}
-use Rattle.std.proofs.Common.{Bool, true, false, cond, nat_lt, inl, inr}
+use Rattle.std.proofs.Common.{◌≡◌, ◌∙◌, refl, sym, subst, ◌<◌, ◌≤◌, ℕ, List, length, arith, min, max, Option, Bool, true, false, cond}
+use Rattle.std.proofs.Common.{nat_lt, inl, inr}
 use Rattle.std.proofs.lemmas.Bool.{cases_lt, ltb-false}
 use Rattle.simd_json_parts.specs.Nodes.{Item}
 use Rattle.simd_json_parts.specs.declared.error.Error.{Error}
 use Rattle.simd_json.specs.Capacities.{Capacities, KeepsCapacities, capacity, with_room}
-use Rattle.simd_json.specs.Parsed.{HasMemory}
-use Rattle.simd_json.specs.Parsed.{IsParse}
+use Rattle.simd_json.specs.Parsed.{HasMemory, IsParse}
 use Rattle.simd_json_stages.specs.Capacities.{capped}
 use Rattle.simd_json_stages.specs.Capacities as lists
 use Rattle.simd_json_stages.specs.EscapeBlocks.{blocks_in}

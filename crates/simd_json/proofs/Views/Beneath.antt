@@ -1,8 +1,6 @@
 -- What is at most so many levels beneath a document is all, where the document is no deeper.
-use Rattle.std.proofs.Common.{◌≡◌, ◌∙◌, ap, refl, ◌≤◌, ◌∷◌, ◌++◌, ℕ, zero, suc, length, length-append, arith}
-use Rattle.std.specs.Prelude.{flat_map}
-use Rattle.simd_json_parts.specs.Document.{Document, array, object, Elements, no_elements}
-use Rattle.simd_json_parts.specs.Document.{element, elements, Members, no_members, member}
+use Rattle.std.proofs.Common.{◌≡◌, ◌∙◌, ap, refl, ◌≤◌, ◌∷◌, ◌++◌, ℕ, zero, suc, length, length-append, arith, flat_map}
+use Rattle.simd_json_parts.specs.Document.{Document, array, object, Elements, no_elements, element, elements, Members, no_members, member}
 use Rattle.simd_json_parts.specs.Limits.{depth, elements_depth, members_depth}
 use Rattle.simd_json_parts.specs.Listing.{listing, elements_listing, members_listing}
 use Rattle.simd_json_parts.specs.Views.{values}

@@ -3,6 +3,7 @@ use Rattle.std.proofs.Common.{◌≡◌, ◌∙◌, ap, sym, subst, ℕ, ◌≤�
 use Rattle.std.specs.Result.{result_err}
 use Rattle.simd_json_theorems.proofs.Printing.Again.{utf8-printed, answer-printed}
 use Rattle.simd_json_theorems.proofs.Printing.Normalized.{equal-normalized, depth-normalized}
+use Rattle.simd_json_theorems.proofs.Printing.Texts.{Denotes-compact, Denotes-pretty}
 use Rattle.simd_json_parts.specs.Document.{Document}
 use Rattle.simd_json_theorems.specs.Normalized.{normalized}
 use Rattle.simd_json_parts.specs.Grammar.{Denotes}
@@ -10,13 +11,19 @@ use Rattle.simd_json_parts.specs.Limits.{depth, max_length, IntegersFit}
 use Rattle.simd_json_parts.specs.Nodes.{Item}
 use Rattle.simd_json_theorems.specs.Spellable.{IsSpellable}
 use Rattle.simd_json_parts.specs.declared.error.Error.{Error}
-use Rattle.simd_json.specs.Parsed.{HasMemory}
-use Rattle.simd_json.specs.Parsed.{IsParse, answered_nodes}
+use Rattle.simd_json_print.specs.Layout.{printed}
+use Rattle.simd_json_print.specs.declared.document.Layout.{Layout}
+use Rattle.simd_json_print.specs.declared.document.Layout.TheVariants as layouts
+use Rattle.simd_json.specs.Parsed.{HasMemory, IsParse, answered_nodes}
 use Rattle.simd_json.specs.PrintedAgain.{DenotesEqual, IsParsedAgain}
 use Rattle.simd_json.specs.Viewed.{doc}
 use Rattle.simd_json.specs.declared.value.tape.value.Value.{Value}
 use Rattle.simd_json.proofs.Parses.ParseAnswers.{as-answered}
 use Rattle.simd_json.proofs.Views.Printable.{listed-spelled}
+
+pub Denotes-printed : (layout : Layout) (d : Document) → IsSpellable d → IntegersFit d → Denotes (printed layout d) (normalized d)
+Denotes-printed layouts.Compact = Denotes-compact
+Denotes-printed layouts.Pretty = Denotes-pretty
 
 module _ (print : Document → List ℕ) (denotes : (d : Document) → IsSpellable d → IntegersFit d → Denotes (print d) (normalized d)) where
   pub utf8-encoded : (v : Value) (bs : List ℕ) → bs ≡ print (doc v) → IsUtf8 bs

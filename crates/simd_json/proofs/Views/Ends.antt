@@ -1,9 +1,8 @@
 -- Lists of bytes as the numbers that their parts spell.
 use Rattle.std.proofs.Common.{◌≡◌, ◌∙◌, sym, ap, ap₂, ℕ, zero, suc, ◌+◌, ◌-◌, ◌<◌, ◌≤◌, ◌++◌, List, [], ◌∷◌, length, take, drop, get_or}
-use Rattle.std.proofs.Common.{length-drop, eqb, true, bytes_eq, arith}
+use Rattle.std.proofs.Common.{length-drop, eqb, true, bytes_eq, arith, drop-drop, get_or-drop, length-take-le, take-append-drop, take_all}
 use Rattle.std.proofs.lemmas.Bool.{eq-eqb, eqb-true}
 use Rattle.std.proofs.lemmas.Bool.Decides.{same_from_decides}
-use Rattle.std.proofs.lemmas.List.{drop-drop, get_or-drop, length-take-le, take-append-drop, take_all}
 use Rattle.std.proofs.lemmas.Slice.Eq.{bytes_eq-Decides}
 
 abbrev AreBytes : List ℕ → Type 0

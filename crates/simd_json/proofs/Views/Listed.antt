@@ -1,12 +1,11 @@
 -- A listing read backwards is its document.
-use Rattle.std.proofs.Common.{◌≡◌, ◌≢◌, ◌∙◌, ap, sym, refl, ℕ, zero, suc, pos, neg_ℤ, Bool, true, List, [], ◌∷◌, ◌++◌, length}
-use Rattle.std.proofs.Common.{get_or, map, drop, append_assoc, arith, inl, inr}
-use Rattle.std.proofs.lemmas.List.{append-nil}
+use Rattle.std.proofs.Common.{◌≡◌, ◌≢◌, ◌∙◌, ap, sym, refl, ℕ, zero, suc, pos, neg_ℤ, Bool, true, List, [], ◌∷◌, ◌++◌, length, get_or, map}
+use Rattle.std.proofs.Common.{drop, append_assoc, arith, inl, inr, append-nil}
 use Rattle.simd_json_parts.proofs.Documents.Listing.{IsHeaded-document}
 use Rattle.simd_json_parts.proofs.Documents.Fronts.{sized}
 use Rattle.simd_json_parts.proofs.Documents.Integers.{of-integer_node}
-use Rattle.simd_json_parts.specs.Document.{Document, integer, string, array, object, Elements, no_elements}
-use Rattle.simd_json_parts.specs.Document.{element, elements, Members, no_members, member, members}
+use Rattle.simd_json_parts.specs.Document.{Document, integer, string, array, object, Elements, no_elements, element, elements, Members}
+use Rattle.simd_json_parts.specs.Document.{no_members, member, members}
 use Rattle.simd_json_parts.specs.Integers.{integer_node}
 use Rattle.simd_json_parts.specs.Listing.{listing, elements_listing, members_listing}
 use Rattle.simd_json.specs.Tapes.{IsTapeContent}
@@ -16,9 +15,8 @@ use Rattle.simd_json_parts.specs.Headers.{count_of, len_of}
 use Rattle.simd_json_parts.specs.declared.node.Node.{Node}
 use Rattle.simd_json_parts.specs.declared.node.Node.TheVariants as nodes
 use Rattle.simd_json.specs.Descending.{elements_joined, flat}
-use Rattle.simd_json.specs.Documents.{magnitude_below, static_document, first_in_row, front, other_elements, in_pairs}
-use Rattle.simd_json.specs.Documents.{front_pairs, other_pairs}
-use Rattle.simd_json.specs.Documents.{elements_of, document_of, members_of, IsListing, AreElementNodes, AreMemberNodes}
+use Rattle.simd_json.specs.Documents.{magnitude_below, static_document, first_in_row, front, other_elements, in_pairs, front_pairs}
+use Rattle.simd_json.specs.Documents.{other_pairs, elements_of, document_of, members_of, IsListing, AreElementNodes, AreMemberNodes}
 
 pub magnitude-below : (n : ℕ) → magnitude_below (neg_ℤ (pos n)) ≡ n
 magnitude-below zero = refl

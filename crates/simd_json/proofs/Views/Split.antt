@@ -91,11 +91,3 @@ headed-by ns first others default key len listed counted some front back is =
     ∙ ap (λ xs. string_item key.now ∷ map item_of xs) (sym back)
 
 -- ---- look-up
-
-pub get-none : (key : List ℕ) (d : Document) → is_object d ≡ false → get key d ≡ None
-get-none key (object ms) is = cc
-get-none key _ is = refl
-
-pub get_idx-none : (i : ℕ) (d : Document) → is_array d ≡ false → get_idx i d ≡ None
-get_idx-none i (array ds) is = cc
-get_idx-none i _ is = refl

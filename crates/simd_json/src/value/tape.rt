@@ -1,7 +1,6 @@
 //! The tape: the nodes of one document.
-ghost use Rattle.std.specs.Prelude.{◌≡◌, ◌≢◌, ◌≤◌, ◌<◌, ◌↔◌, [], map};
-ghost use Rattle.std.specs.Prelude.{IsTrue};
-ghost use Rattle.std.specs.Prelude.{OnOk, OnErr, IfOk, IfErr};
+ghost use Rattle.std.specs.Prelude.{◌≡◌, ◌≢◌, ◌≤◌, ◌<◌, ◌↔◌, [], map, IsTrue, OnOk, OnErr, IfOk};
+ghost use Rattle.std.specs.Prelude.{IfErr};
 ghost use Rattle.std.specs.Mem.{manually_drop_value};
 ghost use Rattle.std.specs.Vec.{vec_capacity, vec_len};
 ghost use Rattle.simd_json_stages.specs.Capacities.{IsOutOfMemory};
@@ -12,6 +11,7 @@ ghost use Rattle.simd_json_parts.specs.Nodes.{item_of};
 mod accessors;
 pub mod array;
 mod cmp;
+pub mod containers;
 pub mod descendants;
 mod encode;
 mod key;
@@ -20,6 +20,7 @@ pub mod pointer;
 mod value;
 
 pub use array::Array;
+pub use containers::Containers;
 pub use descendants::Descendants;
 pub use object::Object;
 use simd_json_parts::error::Result;
@@ -42,9 +43,7 @@ pub struct Tape<'input, A: Allocator = Global> {
 
 impl<'input, A: Allocator> Model for Tape<'input, A> {
     ghost use Rattle.std.specs.Vec.{vec_capacity};
-    ghost use Rattle.simd_json.specs.Tapes.{Listed};
-    ghost use Rattle.simd_json.specs.Tapes.{listed_of};
-    ghost use Rattle.simd_json.specs.Tapes.{IsTapeContent};
+    ghost use Rattle.simd_json.specs.Tapes.{Listed, listed_of, IsTapeContent};
 
     ghost Value = { Listed };
 

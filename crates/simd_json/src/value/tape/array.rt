@@ -1,9 +1,12 @@
 //! An array of a tape, and the iterator over its values.
-ghost use Rattle.std.specs.Prelude.{◌≡◌, map, length};
+ghost use Rattle.std.specs.Prelude.{◌≡◌, map, length, ◌↔◌, IsTrue, MatchOption, [], option_map};
+ghost use Rattle.std.specs.Prelude.{slice_get, IfSome};
 ghost use Rattle.simd_json.specs.Documents.{AreElementNodes, elements_of};
 ghost use Rattle.simd_json.specs.Printable.{ArePrintable};
-ghost use Rattle.simd_json_parts.specs.Document.{elements};
+ghost use Rattle.simd_json_parts.specs.Document.{elements, no_elements, element};
 ghost use Rattle.simd_json_parts.specs.Nodes.{item_of};
+ghost use Rattle.std.specs.Iterator.{UpTo, YieldsFirstBy, item_count};
+ghost use Rattle.std.specs.Iterator.SizeHint.{IsWithinCount};
 
 use crate::value::tape::Value;
 use simd_json_parts::node::Node;
@@ -20,11 +23,8 @@ pub struct Array<'tape, 'input> {
 }
 
 impl<'tape, 'input> Array<'tape, 'input> {
-    ghost use Rattle.std.specs.Prelude.{◌≡◌, ◌↔◌, IsTrue, MatchOption, [], length};
-    ghost use Rattle.std.specs.Prelude.{option_map, slice_get};
     ghost use Rattle.simd_json.specs.Iterated.{elements_left};
     ghost use Rattle.simd_json.specs.Viewed.{doc, docs};
-    ghost use Rattle.simd_json_parts.specs.Document.{no_elements, element, elements};
 
     /// The value at an index, in time linear in the index, or `None` where the array has no more
     /// than `index` values.
@@ -82,10 +82,8 @@ impl<'tape, 'input> IntoIterator for &Array<'tape, 'input> {
 
     type IntoIter = Iter<'tape, 'input>;
 
-    ghost use Rattle.std.specs.Prelude.{◌≡◌};
     ghost use Rattle.simd_json.specs.Iterated.{elements_left};
     ghost use Rattle.simd_json.specs.Viewed.{docs};
-    ghost use Rattle.simd_json_parts.specs.Document.{elements};
 
     ghost into_iter_gives = { λ a it. elements_left it ≡ elements (docs a.now) };
 
@@ -103,9 +101,6 @@ pub struct Iter<'tape, 'input> {
 impl<'tape, 'input> Iterator for Iter<'tape, 'input> {
     type Item = Value<'tape, 'input>;
 
-    ghost use Rattle.std.specs.Prelude.{◌≡◌, IfSome, length};
-    ghost use Rattle.std.specs.Iterator.{UpTo, YieldsFirstBy, item_count};
-    ghost use Rattle.std.specs.Iterator.SizeHint.{IsWithinCount};
     ghost use Rattle.simd_json.specs.Iterated.{elements_left, exact_hint};
     ghost use Rattle.simd_json.specs.Viewed.{doc};
 

@@ -1,4 +1,13 @@
 //! Comparisons of values.
+ghost use Rattle.std.specs.Cmp.{on_per, partial_equiv_from_equiv, on_equiv};
+ghost use Rattle.std.specs.Ordering.{on, int_eq};
+ghost use Rattle.simd_json_theorems.proofs.Documents.Equality.{IsEquivalence-equal};
+ghost use Rattle.simd_json_parts.specs.Equality.{equal};
+ghost use Rattle.std.specs.Prelude.{◌≡◌, nat_eq, bytes_eq, is_some};
+ghost use Rattle.std.specs.Bool.{beq};
+ghost use Rattle.simd_json_parts.specs.Accessors.{as_t, eq_t};
+ghost use Rattle.simd_json_parts.specs.Accessors as accessors;
+
 mod map;
 
 use crate::value::tape::Value;
@@ -7,11 +16,7 @@ use crate::value::tape::Value;
 /// integers the same numbers whatever their kinds, and their decimals, strings and keys the same
 /// bytes.
 impl PartialEq for Value<'_, '_> {
-    ghost use Rattle.std.specs.Cmp.{on_per, partial_equiv_from_equiv};
-    ghost use Rattle.std.specs.Ordering.{on};
     ghost use Rattle.simd_json.specs.Viewed.{doc};
-    ghost use Rattle.simd_json_theorems.proofs.Documents.Equality.{IsEquivalence-equal};
-    ghost use Rattle.simd_json_parts.specs.Equality.{equal};
 
     ghost eq = { on doc equal };
 
@@ -24,20 +29,13 @@ impl PartialEq for Value<'_, '_> {
 
 /// Equality of values is an equivalence.
 impl Eq for Value<'_, '_> {
-    ghost use Rattle.std.specs.Cmp.{on_equiv};
     ghost use Rattle.simd_json.specs.Viewed.{doc};
-    ghost use Rattle.simd_json_theorems.proofs.Documents.Equality.{IsEquivalence-equal};
 
     ghost laws = { on_equiv doc IsEquivalence-equal };
 }
 
 impl<'tape, 'input> Value<'tape, 'input> {
-    ghost use Rattle.std.specs.Prelude.{◌≡◌, nat_eq, bytes_eq, is_some};
-    ghost use Rattle.std.specs.Bool.{beq};
-    ghost use Rattle.std.specs.Ordering.{int_eq};
     ghost use Rattle.simd_json.specs.Viewed.{doc};
-    ghost use Rattle.simd_json_parts.specs.Accessors as accessors;
-    ghost use Rattle.simd_json_parts.specs.Accessors.{as_t, eq_t};
 
     /// Whether the value is null; `false` for any other kind.
     pub fn eq_null(&self) -> bool

@@ -1,21 +1,19 @@
 //! The printed text of a value: compact, or pretty with a line for each member.
 use crate::value::tape::Value;
 use simd_json_parts::error::Result;
-use simd_json_print::document::{
-    append_compact_within, append_pretty_within, write_compact, write_pretty,
-};
+use simd_json_print::document::{Layout, append, write};
 use std::alloc::Allocator;
 use std::io;
 use std::io::Write;
 
 impl Value<'_, '_> {
-    ghost use Rattle.std.specs.Prelude.{◌≡◌, ℕ, take, string_bytes, IfOk, IfErr, OnOk};
-    ghost use Rattle.std.specs.Prelude.{OnErr};
+    ghost use Rattle.std.specs.Prelude.{◌≡◌, ℕ, take, string_bytes, IfOk, IfErr, OnOk, OnErr};
     ghost use Rattle.std.specs.Io.KnownBytes.{Appends};
     ghost use Rattle.simd_json_stages.specs.Capacities.{IsOutOfMemory};
     ghost use Rattle.simd_json.specs.PrintedAgain.{DenotesEqual};
     ghost use Rattle.simd_json.specs.Viewed.{doc};
     ghost use Rattle.simd_json_parts.specs.Printed.{compact, pretty};
+    ghost use Rattle.simd_json_print.specs.Layout.{printed};
 
     /// The compact text of the value: a JSON text (RFC 8259) with no whitespace between its tokens.
     ///
@@ -43,9 +41,7 @@ impl Value<'_, '_> {
         ensures denoted { IfOk result (λ text. DenotesEqual (string_bytes text) (doc self.now)) }
         ensures fault { IfErr result IsOutOfMemory }
     {
-        let mut text = Vec::new(a);
-        append_compact_within(&mut text, self.nodes(), &mut Vec::new(a))?;
-        Ok(unsafe { String::from_utf8_unchecked(text) })
+        self.encode_as(a, Layout::Compact)
     }
 
     /// The pretty text of the value: as [`encode`](Value::encode), but each member is on a line of
@@ -72,8 +68,17 @@ impl Value<'_, '_> {
         ensures denoted { IfOk result (λ text. DenotesEqual (string_bytes text) (doc self.now)) }
         ensures fault { IfErr result IsOutOfMemory }
     {
+        self.encode_as(a, Layout::Pretty)
+    }
+
+    #[inline(always)]
+    fn encode_as<A: Allocator + Copy>(&self, a: A, layout: Layout) -> Result<String<A>>
+        ensures text { IfOk result (λ text. string_bytes text ≡ printed layout (doc self.now)) }
+        ensures denoted { IfOk result (λ text. DenotesEqual (string_bytes text) (doc self.now)) }
+        ensures fault { IfErr result IsOutOfMemory }
+    {
         let mut text = Vec::new(a);
-        append_pretty_within(&mut text, self.nodes(), &mut Vec::new(a))?;
+        append(&mut text, self.nodes(), layout, &mut Vec::new(a))?;
         Ok(unsafe { String::from_utf8_unchecked(text) })
     }
 
@@ -103,7 +108,7 @@ impl Value<'_, '_> {
             × Appends (W.contents w.old) (W.contents w.new)
             (take count (compact (doc self.now)))) }
     {
-        write_compact(w, self.nodes())
+        write(w, self.nodes(), Layout::Compact)
     }
 
     /// Writes the text of [`encode_pp`](Value::encode_pp). Allocates nothing, and takes as much
@@ -128,6 +133,6 @@ impl Value<'_, '_> {
             × Appends (W.contents w.old) (W.contents w.new)
             (take count (pretty (doc self.now)))) }
     {
-        write_pretty(w, self.nodes())
+        write(w, self.nodes(), Layout::Pretty)
     }
 }

@@ -1,9 +1,13 @@
 //! An object of a tape, and the iterators over its pairs, its keys and its values.
-ghost use Rattle.std.specs.Prelude.{◌≡◌, map, length};
+ghost use Rattle.std.specs.Prelude.{◌≡◌, map, length, ◌↔◌, IsTrue, MatchOption, [], option_map};
+ghost use Rattle.std.specs.Prelude.{IfSome};
 ghost use Rattle.simd_json.specs.Documents.{AreMemberNodes, members_of};
 ghost use Rattle.simd_json.specs.Printable.{ArePrintable};
-ghost use Rattle.simd_json_parts.specs.Document.{members};
+ghost use Rattle.simd_json_parts.specs.Document.{members, no_members, member};
 ghost use Rattle.simd_json_parts.specs.Nodes.{item_of};
+ghost use Rattle.simd_json_parts.specs.Views.{first_with};
+ghost use Rattle.std.specs.Iterator.{UpTo, YieldsFirstBy, item_count, YieldsFirstRef};
+ghost use Rattle.std.specs.Iterator.SizeHint.{IsWithinCount};
 
 use crate::value::tape::Value;
 use crate::value::tape::key::is_same;
@@ -22,12 +26,9 @@ pub struct Object<'tape, 'input> {
 }
 
 impl<'tape, 'input> Object<'tape, 'input> {
-    ghost use Rattle.std.specs.Prelude.{◌≡◌, ◌↔◌, IsTrue, MatchOption, [], length};
-    ghost use Rattle.std.specs.Prelude.{option_map};
     ghost use Rattle.simd_json.specs.Iterated.{pairs_left, keys_left, values_left};
     ghost use Rattle.simd_json.specs.Viewed.{doc, pairs};
-    ghost use Rattle.simd_json_parts.specs.Document.{no_members, member, members};
-    ghost use Rattle.simd_json_parts.specs.Views.{first_with, keys, values};
+    ghost use Rattle.simd_json_parts.specs.Views.{keys, values};
 
     /// The value of the first pair with that key, or `None` where the key is missing. Linear time.
     ///
@@ -119,10 +120,8 @@ impl<'tape, 'input> IntoIterator for &Object<'tape, 'input> {
 
     type IntoIter = Iter<'tape, 'input>;
 
-    ghost use Rattle.std.specs.Prelude.{◌≡◌};
     ghost use Rattle.simd_json.specs.Iterated.{pairs_left};
     ghost use Rattle.simd_json.specs.Viewed.{pairs};
-    ghost use Rattle.simd_json_parts.specs.Document.{members};
 
     ghost into_iter_gives = { λ o it. pairs_left it ≡ members (pairs o.now) };
 
@@ -140,11 +139,7 @@ pub struct Iter<'tape, 'input> {
 impl<'tape, 'input> Iterator for Iter<'tape, 'input> {
     type Item = (&'input str, Value<'tape, 'input>);
 
-    ghost use Rattle.std.specs.Prelude.{◌≡◌, IfSome, length};
-    ghost use Rattle.std.specs.Iterator.{UpTo, YieldsFirstBy, item_count};
-    ghost use Rattle.std.specs.Iterator.SizeHint.{IsWithinCount};
-    ghost use Rattle.simd_json.specs.Iterated.{exact_hint, pairs_left};
-    ghost use Rattle.simd_json.specs.Iterated.{pair};
+    ghost use Rattle.simd_json.specs.Iterated.{exact_hint, pairs_left, pair};
 
     ghost next_gives = { YieldsFirstBy pair pairs_left };
 
@@ -182,9 +177,6 @@ pub struct Keys<'tape, 'input> {
 impl<'tape, 'input> Iterator for Keys<'tape, 'input> {
     type Item = &'input str;
 
-    ghost use Rattle.std.specs.Prelude.{◌≡◌, IfSome, length};
-    ghost use Rattle.std.specs.Iterator.{UpTo, YieldsFirstRef, item_count};
-    ghost use Rattle.std.specs.Iterator.SizeHint.{IsWithinCount};
     ghost use Rattle.simd_json.specs.Iterated.{exact_hint, keys_left};
 
     ghost next_gives = { YieldsFirstRef keys_left };
@@ -223,9 +215,6 @@ pub struct Values<'tape, 'input> {
 impl<'tape, 'input> Iterator for Values<'tape, 'input> {
     type Item = Value<'tape, 'input>;
 
-    ghost use Rattle.std.specs.Prelude.{◌≡◌, IfSome, length};
-    ghost use Rattle.std.specs.Iterator.{UpTo, YieldsFirstBy, item_count};
-    ghost use Rattle.std.specs.Iterator.SizeHint.{IsWithinCount};
     ghost use Rattle.simd_json.specs.Iterated.{exact_hint, values_left};
     ghost use Rattle.simd_json.specs.Viewed.{doc};
 

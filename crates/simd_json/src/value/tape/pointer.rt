@@ -1,9 +1,10 @@
 //! JSON Pointer (RFC 6901): the value at a place within another.
-ghost use Rattle.std.specs.Prelude.{◌≡◌, ◌≤◌, ◌<◌, None, drop, length};
+ghost use Rattle.std.specs.Prelude.{◌≡◌, ◌≤◌, ◌<◌, None, drop, length, option_map, IfOk};
 ghost use Rattle.std.specs.Result.{result_ok};
 ghost use Rattle.simd_json_parts.specs.Followed.{first_step};
-ghost use Rattle.simd_json_parts.specs.Pointed.{pointed, pointed_from};
+ghost use Rattle.simd_json_parts.specs.Pointed.{pointed, pointed_from, named};
 ghost use Rattle.simd_json.specs.Viewed.{doc};
+ghost use Rattle.simd_json_parts.specs.Views.{ok_map};
 
 mod lookup;
 
@@ -14,10 +15,6 @@ use simd_json_parts::pointer::{Parent, follow, is_plain, stop};
 use std::convert::Infallible;
 
 impl<'tape, 'input> Value<'tape, 'input> {
-    ghost use Rattle.std.specs.Prelude.{◌≡◌, option_map};
-    ghost use Rattle.std.specs.Result.{result_ok};
-    ghost use Rattle.simd_json_parts.specs.Views.{ok_map};
-    ghost use Rattle.simd_json_parts.specs.Pointed.{pointed};
     ghost use Rattle.simd_json_parts.specs.PointedText.{text};
     ghost use Rattle.simd_json.specs.Viewed.{doc};
 
@@ -95,9 +92,6 @@ fn walk<'tape, 'input>(value: Value<'tape, 'input>, pointer: &str) -> (Value<'ta
 }
 
 impl<'tape, 'input> Parent for Value<'tape, 'input> {
-    ghost use Rattle.std.specs.Prelude.{◌≡◌, IfOk, option_map};
-    ghost use Rattle.std.specs.Result.{result_ok};
-    ghost use Rattle.simd_json_parts.specs.Pointed.{named};
     ghost use Rattle.simd_json.specs.Viewed.{doc};
 
     type Stop = Infallible;

@@ -1,13 +1,15 @@
 //! A value of a tape.
-ghost use Rattle.std.specs.Prelude.{◌≡◌, ◌++◌, List, length, map};
+ghost use Rattle.std.specs.Prelude.{◌≡◌, ◌++◌, List, length, map, ◌<◌, ◌^◌, ◌∷◌, drop, is_some};
+ghost use Rattle.std.specs.Prelude.{IfSome, option_map};
 ghost use Rattle.simd_json.specs.Documents.{IsListing};
 ghost use Rattle.simd_json.specs.Printable.{ArePrintable};
-ghost use Rattle.simd_json_parts.specs.Document.{Document};
+ghost use Rattle.simd_json_parts.specs.Document.{Document, array, object};
 ghost use Rattle.simd_json_parts.specs.Listing.{listing};
 ghost use Rattle.simd_json.specs.Tapes.{StandsFor};
 ghost use Rattle.simd_json_parts.specs.Nodes.{Item, item_of};
 
 use crate::value::tape::array::Array;
+use crate::value::tape::containers::Containers;
 use crate::value::tape::descendants::Descendants;
 use crate::value::tape::object::Object;
 use simd_json_parts::node::{Node, StaticNode, ValueType};
@@ -75,17 +77,14 @@ pub struct Value<'tape, 'input> {
 }
 
 impl<'tape, 'input> Value<'tape, 'input> {
-    ghost use Rattle.std.specs.Prelude.{◌≡◌, ◌<◌, ◌^◌, ◌++◌, ◌∷◌, map};
-    ghost use Rattle.std.specs.Prelude.{drop, length, is_some, IfSome, option_map};
-    ghost use Rattle.simd_json.specs.Beneath.{beneath};
-    ghost use Rattle.simd_json.specs.Descending.{descendants_left};
+    ghost use Rattle.simd_json.specs.Beneath.{beneath, containers};
+    ghost use Rattle.simd_json_parts.specs.Descent.{is_container};
+    ghost use Rattle.simd_json.specs.Descending.{containers_left, descendants_left};
     ghost use Rattle.simd_json.specs.Documents.{IsListing, IsFirst, document_of};
     ghost use Rattle.simd_json.specs.Printable.{ArePrintable};
     ghost use Rattle.simd_json.specs.Viewed.{doc, docs, pairs};
-    ghost use Rattle.simd_json_parts.specs.Document.{Document, null, array, object};
-    ghost use Rattle.simd_json_parts.specs.Listing.{listing};
+    ghost use Rattle.simd_json_parts.specs.Document.{null};
     ghost use Rattle.simd_json.specs.Tapes.{StandsFor};
-    ghost use Rattle.simd_json_parts.specs.Nodes.{Item, item_of};
     ghost use Rattle.simd_json_parts.specs.Views.{value_type, is_array, is_object};
     ghost use Rattle.simd_json_parts.specs.Views.{get, get_idx, contains_key};
 
@@ -165,6 +164,13 @@ impl<'tape, 'input> Value<'tape, 'input> {
         ensures { result ≡ is_object (doc self.now) }
     {
         matches!(self.node(), Node::Object { .. })
+    }
+
+    // Whether the value is an array or an object.
+    pub(super) fn is_container(&self) -> bool
+        ensures { result ≡ is_container (doc self.now) }
+    {
+        matches!(self.node(), Node::Array { .. } | Node::Object { .. })
     }
 
     /// The value as an array, or `None` where it is of another kind.
@@ -261,6 +267,30 @@ impl<'tape, 'input> Value<'tape, 'input> {
         ensures few { length (descendants_left result) < 2 ^ 64 }
     {
         Descendants::new(*self)
+    }
+
+    /// An iterator over the arrays and objects of the value, the value itself among them, in the
+    /// document's order: each before those in it, however deep they are. It allocates nothing, and
+    /// passes over each node of the value once.
+    ///
+    /// ```
+    /// use simd_json::tape::Value;
+    ///
+    /// // How many values have the key `id`, at any depth.
+    /// fn ids(value: &Value<'_, '_>) -> usize {
+    ///     let mut count = 0usize;
+    ///     for container in value.containers() {
+    ///         if container.contains_key("id") {
+    ///             count = count.saturating_add(1);
+    ///         }
+    ///     }
+    ///     count
+    /// }
+    /// ```
+    pub fn containers(&self) -> Containers<'tape, 'input>
+        ensures { containers_left result ≡ containers (doc self.now) }
+    {
+        Containers::new(*self)
     }
 }
 

@@ -1,6 +1,5 @@
 use Rattle.simd_json_stages.specs.Building.{header_of}
-use Rattle.simd_json_stages.specs.Placed.{textless}
-use Rattle.simd_json_stages.specs.Placed.{noting}
+use Rattle.simd_json_stages.specs.Placed.{textless, noting}
 use Rattle.simd_json.proofs.kept.KeptSinkSpanSink.push_header.Given as goal
 
 abbrev pub ghost-of : goal.ghost-of

@@ -1,6 +1,5 @@
 use Rattle.simd_json_parts.specs.Nodes.{static_item}
-use Rattle.simd_json_stages.specs.Placed.{textless}
-use Rattle.simd_json_stages.specs.Placed.{noting}
+use Rattle.simd_json_stages.specs.Placed.{textless, noting}
 use Rattle.simd_json.proofs.kept.KeptSinkSpanSink.push_static.Given as goal
 
 abbrev pub ghost-of : goal.ghost-of

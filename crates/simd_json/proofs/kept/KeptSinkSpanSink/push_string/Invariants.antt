@@ -1,6 +1,5 @@
 use Rattle.simd_json_parts.specs.Nodes.{string_item}
-use Rattle.simd_json_stages.specs.Placed.{placed_at}
-use Rattle.simd_json_stages.specs.Placed.{noting}
+use Rattle.simd_json_stages.specs.Placed.{placed_at, noting}
 use Rattle.simd_json.proofs.kept.KeptSinkSpanSink.push_string.Given as goal
 
 abbrev pub ghost-of : goal.ghost-of

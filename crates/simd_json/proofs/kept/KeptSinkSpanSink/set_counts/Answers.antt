@@ -1,5 +1,4 @@
-use Rattle.std.proofs.Common.{arith}
-use Rattle.std.proofs.lemmas.List.{length-set}
+use Rattle.std.proofs.Common.{arith, length-set}
 use Rattle.simd_json_stages.specs.Building.{header_of}
 use Rattle.simd_json_stages.specs.Placed.{textless}
 use Rattle.simd_json.proofs.Keeping.{kept-set}
@@ -22,7 +21,8 @@ invariant_of-self-clause-kept g c whole =
     let s = c.args.self.now in
     let p = textless (header_of c.args.container c.args.len c.args.count) in
     rw c.of-self.ensures
-    (kept-set g.N.SpanNode.form s.noted.note.placed c.args.header p _ _ _ (s.kept whole) c.requires.within c.header.ensures c.set_node.ensures.set)
+    (kept-set g.N.SpanNode.form s.noted.note.placed c.args.header p _ _ _ (s.kept whole) c.requires.within
+    c.header.ensures c.set_node.ensures.set)
 
 pub invariant_of-self-clause-full : goal.invariant_of-self-clause-full
 invariant_of-self-clause-full g c lost = omega (arith, c.args.self.now.full lost, c.set_node.ensures.len, c.set_node.ensures.capacity)

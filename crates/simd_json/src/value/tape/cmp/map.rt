@@ -1,22 +1,18 @@
 //! Comparison of an object with a map.
-ghost use Rattle.std.specs.HashMap.{get_by_text, values};
+ghost use Rattle.std.specs.HashMap.{get_by_text, values, hash_map_len};
 ghost use Rattle.std.specs.Prelude.{◌≡◌, Bool};
 ghost use Rattle.simd_json.specs.MapCompared.{MayCompare, Says};
 ghost use Rattle.simd_json.specs.Viewed.{pairs};
 ghost use Rattle.simd_json_parts.specs.Document.{Document};
-ghost use Rattle.simd_json_parts.specs.MapEquality.{are_in, has_distinct_names};
+ghost use Rattle.simd_json_parts.specs.MapEquality.{are_in, has_distinct_names, equals_map};
 
 use crate::value::tape::{Object, Value};
 use std::collections::HashMap;
 use std::hash::BuildHasher;
 
 impl<'tape, 'input> Value<'tape, 'input> {
-    ghost use Rattle.std.specs.HashMap.{get_by_text, hash_map_len, values};
-    ghost use Rattle.std.specs.Prelude.{◌≡◌, Bool};
     ghost use Rattle.simd_json.specs.MapCompared.{MayCompareTo, Says};
     ghost use Rattle.simd_json.specs.Viewed.{doc};
-    ghost use Rattle.simd_json_parts.specs.Document.{Document};
-    ghost use Rattle.simd_json_parts.specs.MapEquality.{equals_map};
 
     /// Whether the value is an object with the map's keys and equal values: it has as many pairs as
     /// the map, its keys are distinct, each is in the map, and `same` returns `true` for the map's

@@ -1,5 +1,4 @@
-use Rattle.std.proofs.Common.{◌∙◌, sym, length}
-use Rattle.std.proofs.lemmas.Bool.{eqb-true}
+use Rattle.std.proofs.Common.{◌∙◌, sym, length, eqb-true}
 use Rattle.simd_json_parts.proofs.Pointers.Keys.{key-length}
 use Rattle.simd_json.proofs.value.tape.pointer.lookup.is_named.Goals as goal
 

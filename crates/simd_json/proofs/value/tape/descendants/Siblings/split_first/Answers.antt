@@ -2,7 +2,7 @@ use Rattle.std.proofs.Common.{◌∙◌, sym, refl}
 use Rattle.simd_json.specs.Viewed.{doc}
 use Rattle.simd_json.proofs.Views.Descending.{row-begins}
 use Rattle.simd_json.proofs.Views.Split.{without-first}
-use Rattle.simd_json.proofs.value.tape.descendants.Row.split_first.Goals as goal
+use Rattle.simd_json.proofs.value.tape.descendants.Siblings.split_first.Goals as goal
 
 pub split-requires-clause-listed : goal.split-requires-clause-listed
 split-requires-clause-listed c = row-begins c.args.self.nodes.now c.args.self.listed (sym c.is_empty.ensures ∙ c.if-is_empty.false)

@@ -1,7 +1,7 @@
 use Rattle.std.proofs.Common.{◌≡◌, ◌≤◌, ◌-◌, length, drop}
 use Rattle.simd_json.specs.Descending.{left_by}
 use Rattle.simd_json_parts.specs.Document.{Elements}
-use Rattle.simd_json.proofs.value.tape.descendants.Level.first_unfinished.Given as goal
+use Rattle.simd_json.proofs.value.tape.descendants.Open.first_unfinished.Given as goal
 
 abbrev pub invariant-loop-index : goal.invariant-loop-index
 invariant-loop-index l =

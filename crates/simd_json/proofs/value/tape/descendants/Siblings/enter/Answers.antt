@@ -1,6 +1,6 @@
 use Rattle.simd_json.proofs.Views.Descending.{row-some, row-entered}
 use Rattle.simd_json.proofs.Views.Printable.{printable-drop}
-use Rattle.simd_json.proofs.value.tape.descendants.Row.enter.Goals as goal
+use Rattle.simd_json.proofs.value.tape.descendants.Siblings.enter.Goals as goal
 
 pub invariant_of-result : goal.invariant_of-result
 invariant_of-result c =
@@ -10,7 +10,7 @@ invariant_of-result c =
       printable = printable-drop 1 self.nodes.now _ c.split_at.ensures.back self.printable;
     }
 
-pub returns : goal.returns
-returns c =
+pub returns-clause-row : goal.returns-clause-row
+returns-clause-row c =
     let self = c.args.self in
     (row-entered self.nodes.now _ self.listed (row-some self.nodes.now c.requires) c.split_at.ensures.back).whole

@@ -4,7 +4,7 @@ use Rattle.simd_json.specs.Documents.{AreElementNodes, elements_of}
 use Rattle.simd_json.specs.Printable.{ArePrintable}
 use Rattle.simd_json_parts.specs.Nodes.{item_of}
 use Rattle.simd_json.proofs.Views.Descending.{row-of}
-use Rattle.simd_json.proofs.value.tape.descendants.Row.new.Goals as goal
+use Rattle.simd_json.proofs.value.tape.descendants.Siblings.new.Goals as goal
 
 pub invariant_of-result : goal.invariant_of-result
 invariant_of-result c = record {
