@@ -1,13 +1,9 @@
 -- Differences of integers that are read digit by digit, and of exponents.
-use Rattle.std.proofs.Common.{◌≡◌, ◌+◌, ◌*◌, ℕ, max, Bool, true, false, arith}
-use Rattle.std.specs.Prelude.{ℤ, pos, negsuc, ◌+ℤ◌, ◌-ℤ◌, ◌*ℤ◌}
+use Rattle.std.proofs.Common.{◌≡◌, ◌+◌, ◌*◌, ℕ, max, Bool, true, false, arith, ℤ, pos, negsuc, ◌+ℤ◌, ◌-ℤ◌, ◌*ℤ◌}
 use Rattle.std.proofs.lemmas.Int.{ints, clamps}
 use Rattle.simd_json_parts.specs.Integers.{number_of}
 use Rattle.simd_json_number.specs.Clamped.{clamped, limit, IsWithin}
 use Rattle.simd_json_number.specs.Numbers.{positive_part}
-
-pub clamped-within : (z : ℤ) → IsWithin limit (clamped z)
-clamped-within z = record { low = omega (arith, ints, clamps); high = omega (arith, ints, clamps) }
 
 -- what is clamped before a digit is read is clamped after it
 pub clamped-more : (z x y : ℤ) → IsWithin (pos 9) x → IsWithin (pos 9) y

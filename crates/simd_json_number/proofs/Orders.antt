@@ -1,19 +1,16 @@
 -- The order of numbers by their first digits.
-use Rattle.std.proofs.Common.{◌≡◌, ◌∙◌, ap, ◌+◌, ◌*◌, ◌^◌, ◌<◌, ◌≤◌, ℕ, suc, max, List, length, arith}
-use Rattle.std.proofs.Common.{Less, Greater}
+use Rattle.std.proofs.Common.{◌≡◌, ◌∙◌, ap, ◌+◌, ◌*◌, ◌^◌, ◌<◌, ◌≤◌, ℕ, suc, max, List, length, arith, Less, Greater, pow-add}
 use Rattle.std.specs.Prelude.{slice_index, ℤ, pos, ◌+ℤ◌, ◌-ℤ◌, ◌<ℤ◌}
 use Rattle.std.specs.Int.Digits.{number_from_digits, AllBelowBase}
 use Rattle.std.specs.Ordering.{nat_cmp}
 use Rattle.std.proofs.lemmas.Int.{ints, clamps}
 use Rattle.std.proofs.lemmas.Int.Digits.{number_lt}
-use Rattle.std.proofs.lemmas.Nat.{pow-add}
 use Rattle.std.proofs.Math.Nat.{pow-suc, mul-le-mul_right, mul-lt-mul_of_pos_right, pow-le-pow_right, one-le-pow}
 use Rattle.simd_json_number.specs.Clamped.{clamped}
 use Rattle.simd_json_number.specs.Numbers.{positive_part}
 use Rattle.simd_json_number.specs.Padded.{compare_first}
 use Rattle.simd_json_number.proofs.Clamps.{parts-cases, max-cases}
-use Rattle.simd_json_number.proofs.DigitLists.{compare_first-is, number-first, number_of_first, number_of_first-all}
-use Rattle.simd_json_number.proofs.DigitLists.{less-is, greater-is}
+use Rattle.simd_json_number.proofs.DigitLists.{compare_first-is, number-first, number_of_first, number_of_first-all, less-is, greater-is}
 
 -- a number whose first digit, which is not 0, has the greater power of ten is greater
 higher : (c d n m p q : ℕ) → 10 ^ n ≤ 10 * c → d < 10 ^ m → m + q < n + p → d * 10 ^ q < c * 10 ^ p

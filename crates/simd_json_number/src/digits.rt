@@ -1,5 +1,5 @@
 //! The digits among bytes.
-ghost use Rattle.std.specs.Prelude.{◌≡◌, ◌<◌, length};
+ghost use Rattle.std.specs.Prelude.{◌≡◌, ◌<◌, length, drop, slice_index};
 ghost use Rattle.simd_json_number.specs.Numbers.{digits};
 
 // So many zeros, and then the digits among bytes.
@@ -10,7 +10,6 @@ pub(crate) struct Digits<'text> {
 }
 
 impl Digits<'_> {
-    ghost use Rattle.std.specs.Prelude.{◌≡◌, ◌<◌, drop, slice_index};
     ghost use Rattle.simd_json_number.specs.Padded.{digits_left};
 
     // The next digit, and 0 after the last one.

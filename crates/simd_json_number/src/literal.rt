@@ -4,10 +4,11 @@ ghost use Rattle.std.specs.List.{position_or_len};
 ghost use Rattle.std.specs.Prelude.{◌≡◌, ◌+◌, ◌<◌, drop, length, slice_index, IsTrue};
 ghost use Rattle.simd_json_number.specs.Numbers.{digits, is_e, is_point};
 ghost use Rattle.simd_json_parts.specs.Numbers.{has_minus};
+ghost use Rattle.simd_json_parts.specs.Integers.{number_of};
 
 // A literal, without what does not change its value.
 #[derive(Clone, Copy, Debug)]
-pub(crate) struct Literal<'text> {
+pub(crate) struct LiteralParts<'text> {
     // Whether it is below zero.
     pub(crate) is_negative: bool,
     // What is before the `e`, from the first digit on that is not 0: nothing for zero.
@@ -20,19 +21,17 @@ pub(crate) struct Literal<'text> {
     ghost below_zero: { IsTrue is_negative → 0 < length significant.now },
 }
 
-impl<'text> Literal<'text> {
-    ghost use Rattle.std.specs.Prelude.{◌≡◌};
+impl<'text> LiteralParts<'text> {
     ghost use Rattle.simd_json_number.specs.Magnitudes.{exponent, magnitude, value};
-    ghost use Rattle.simd_json_parts.specs.Integers.{number_of};
     ghost use Rattle.simd_json_number.specs.Numbers.{meaning};
 
-    pub(crate) fn of(bytes: &'text [u8]) -> Literal<'text>
+    pub(crate) fn of(bytes: &'text [u8]) -> LiteralParts<'text>
         ensures { value result ≡ meaning bytes.now }
     {
         let end = exponent_at(bytes);
         let significand = &bytes[..end];
         let significant = significant(significand);
-        Literal {
+        LiteralParts {
             is_negative: has_minus(significand) && !significant.is_empty(),
             significant,
             fraction: after(significand, point_at(significand)),
@@ -41,13 +40,13 @@ impl<'text> Literal<'text> {
     }
 
     // The same number, below zero or not.
-    pub(crate) fn with_sign(self, is_negative: bool) -> Literal<'text>
+    pub(crate) fn with_sign(self, is_negative: bool) -> LiteralParts<'text>
         ensures magnitude { magnitude result ≡ magnitude self.entry }
         ensures exponent { exponent result ≡ exponent self.entry }
         ensures sign { number_of result.is_negative (magnitude self.entry)
             ≡ number_of is_negative (magnitude self.entry) }
     {
-        Literal {
+        LiteralParts {
             is_negative: is_negative && !self.significant.is_empty(),
             significant: self.significant,
             fraction: self.fraction,

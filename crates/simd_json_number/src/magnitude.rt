@@ -6,10 +6,10 @@ ghost use Rattle.simd_json_number.specs.Padded.{compare_first};
 
 use crate::digits::{Digits, count_digits};
 use crate::exponent::difference;
-use crate::literal::Literal;
+use crate::literal::LiteralParts;
 use std::cmp::Ordering;
 
-pub(crate) fn compare_magnitudes(left: &Literal<'_>, right: &Literal<'_>) -> Ordering
+pub(crate) fn compare_magnitudes(left: &LiteralParts<'_>, right: &LiteralParts<'_>) -> Ordering
     ensures { result ≡ compare_magnitudes left.now right.now }
 {
     if left.significant.is_empty() && right.significant.is_empty() {
@@ -26,7 +26,7 @@ pub(crate) fn compare_magnitudes(left: &Literal<'_>, right: &Literal<'_>) -> Ord
 
 // Where neither is 0: the first digit with the greater power of ten decides, and if there is none
 // the digits do.
-fn compare_significant(left: &Literal<'_>, right: &Literal<'_>) -> Ordering
+fn compare_significant(left: &LiteralParts<'_>, right: &LiteralParts<'_>) -> Ordering
     requires left { 0 < length left.now.significant.now }
     requires right { 0 < length right.now.significant.now }
     ensures { result ≡ compare_magnitudes left.now right.now }
@@ -49,9 +49,9 @@ fn compare_significant(left: &Literal<'_>, right: &Literal<'_>) -> Ordering
 
 // By how much the power of ten of one's first digit is greater, within limits.
 fn first_apart(
-    left: &Literal<'_>,
+    left: &LiteralParts<'_>,
     left_count: usize,
-    right: &Literal<'_>,
+    right: &LiteralParts<'_>,
     right_count: usize,
 ) -> i128
     ensures value { result ≡ first_apart left.now left_count right.now right_count }

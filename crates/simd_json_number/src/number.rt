@@ -5,7 +5,7 @@ ghost use Rattle.simd_json_number.specs.Magnitudes.{value};
 ghost use Rattle.simd_json_number.specs.Numbers.{compare};
 ghost use Rattle.simd_json_parts.specs.Integers.{number_of};
 
-use crate::literal::Literal;
+use crate::literal::LiteralParts;
 use crate::magnitude::compare_magnitudes;
 use itoa::Buffer;
 use std::cmp::Ordering;
@@ -26,7 +26,6 @@ pub enum Number<'text> {
 }
 
 impl<'text> Number<'text> {
-    ghost use Rattle.std.specs.Prelude.{◌≡◌};
     ghost use Rattle.simd_json_number.specs.Magnitudes.{value};
     ghost use Rattle.simd_json_number.specs.Meanings.{number};
     ghost use Rattle.simd_json_number.specs.Numbers.{compare};
@@ -60,15 +59,15 @@ impl<'text> Number<'text> {
     }
 
     // The literal, where the buffer has room for that of an integer.
-    fn literal<'all>(&'all self, buffer: &'all mut Buffer) -> Literal<'all>
+    fn literal<'all>(&'all self, buffer: &'all mut Buffer) -> LiteralParts<'all>
         ensures { value result ≡ number self.now }
     {
         match self {
             Number::Integer {
                 is_negative,
                 magnitude,
-            } => Literal::of(buffer.format(*magnitude).as_bytes()).with_sign(*is_negative),
-            Number::Literal(text) => Literal::of(text.as_bytes()),
+            } => LiteralParts::of(buffer.format(*magnitude).as_bytes()).with_sign(*is_negative),
+            Number::Literal(text) => LiteralParts::of(text.as_bytes()),
         }
     }
 }
@@ -93,7 +92,7 @@ fn compare_integers(
     }
 }
 
-fn compare_literals(left: &Literal<'_>, right: &Literal<'_>) -> Ordering
+fn compare_literals(left: &LiteralParts<'_>, right: &LiteralParts<'_>) -> Ordering
     ensures { result ≡ compare (value left.now) (value right.now) }
 {
     match (left.is_negative, right.is_negative) {

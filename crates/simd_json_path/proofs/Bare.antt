@@ -1,93 +1,60 @@
--- Nothing is selected of a value in which nothing is.
-use Rattle.std.proofs.Common.{◌≡◌, ◌∙◌, ap, refl, ℕ, zero, suc, List, [], ◌∷◌, ◌++◌, drop, arith}
-use Rattle.std.proofs.Common.{Bool, true, false, cond, Option, Some, None}
-use Rattle.std.specs.Prelude.{filter, flat_map, length, option_and_then, reverse, slice_get, ℤ, pos, negsuc}
-use Rattle.std.specs.Option.{option_to_list}
-use Rattle.std.proofs.Math.Seq.{drop-nil, take-nil}
-use Rattle.simd_json_parts.specs.Document.{Document, array, object, no_elements, element, no_members, member}
-use Rattle.simd_json_parts.specs.Listing.{listing, elements_listing}
-use Rattle.simd_json.specs.Beneath.{children}
-use Rattle.simd_json_path.specs.Nodes.{chosen_by, followed}
-use Rattle.simd_json_path.specs.Paths.{selected_by, selected_by_all}
-use Rattle.simd_json_path.specs.Places.{place}
-use Rattle.simd_json_path.specs.Room.{entered, is_container, selected_in}
-use Rattle.simd_json_path.specs.Slices.{bound_after_or, bound_or, by_step, every}
+-- Selectors select nothing of a scalar, so a descendant segment selects of arrays and objects alone.
+use Rattle.std.proofs.Common.{◌≡◌, ◌∙◌, ap, sym, refl, List, [], ◌∷◌, ◌++◌, Bool, true, false, cond, filter, flat_map, append-nil}
+use Rattle.simd_json_parts.specs.Document.{Document, array, object}
+use Rattle.simd_json_parts.specs.Descent.{is_container}
+use Rattle.simd_json.specs.Beneath.{containers, descendants}
+use Rattle.simd_json_path.specs.Nodes.{by_all, chosen_by, followed, selected_of, visited}
+use Rattle.simd_json_path.specs.Paths.{selected_by}
 use Rattle.simd_json_query.specs.declared.query.Choice.{Choice}
 use Rattle.simd_json_query.specs.declared.query.Choice.TheVariants as choice
 use Rattle.simd_json_query.specs.declared.query.Segment.{Segment}
 use Rattle.simd_json_query.specs.declared.query.Selector.{Selector}
 use Rattle.simd_json_query.specs.declared.query.Selector.TheVariants as selector
-use Rattle.simd_json_query.specs.declared.query.Slice.{Slice}
-use Rattle.simd_json_path.proofs.Equals.{of-none}
 
--- ---- a scalar, and a value of one node
+pub scalar-chosen : (c : Choice) (d : Document) → is_container d ≡ false → chosen_by c d ≡ []
+scalar-chosen c (array ds) scalar = cc
+scalar-chosen c (object ms) scalar = cc
+scalar-chosen (choice.Name name) _ scalar = refl
+scalar-chosen choice.Wildcard _ scalar = refl
+scalar-chosen (choice.Index i) _ scalar = refl
+scalar-chosen (choice.Slice s) _ scalar = refl
 
-pub scalar-children : (d : Document) → is_container d ≡ false → children d ≡ []
-scalar-children (array ds) scalar = cc
-scalar-children (object ms) scalar = cc
-scalar-children _ scalar = refl
+pub scalar-selected : (root : Document) (s : Selector) (d : Document) → is_container d ≡ false → selected_by root s d ≡ []
+scalar-selected root (selector.Choice c) d scalar = scalar-chosen c d scalar
+scalar-selected root (selector.Filter test) (array ds) scalar = cc
+scalar-selected root (selector.Filter test) (object ms) scalar = cc
+scalar-selected root (selector.Filter test) _ scalar = refl
 
-none-listed : {A : Type 0} (xs ys : List A) → suc (length (xs ++ ys)) ≡ 1 → [] ≡ xs
-none-listed [] ys one = refl
-none-listed (x ∷ xs) ys one = absurd (omega (arith, one))
+-- ---- what is nothing of each scalar is of the arrays and objects
 
-pub node-children : (d : Document) → length (listing d) ≡ 1 → children d ≡ []
-node-children (array no_elements) one = refl
-node-children (array (element d ds)) one = absurd (of-none d (none-listed (listing d) (elements_listing ds) one))
-node-children (object no_members) one = refl
-node-children (object (member k d ms)) one = absurd (omega (arith, one))
-node-children _ one = refl
+module _ {A : Type 0} (f : Document → List A) (none : (d : Document) → is_container d ≡ false → f d ≡ []) where
+  kept-one : (b : Bool) (d : Document) (ds : List Document) → is_container d ≡ b
+      → flat_map f (cond b (d ∷ ds) ds) ≡ f d ++ flat_map f ds
+  kept-one true d ds is = refl
+  kept-one false d ds is = ap (λ xs. xs ++ flat_map f ds) (sym (none d is))
 
--- ---- what selectors select of it
+  of-containers : (ds : List Document) → flat_map f (filter is_container ds) ≡ flat_map f ds
+  of-containers [] = refl
+  of-containers (d ∷ ds) = kept-one (is_container d) d (filter is_container ds) refl ∙ ap (λ xs. f d ++ xs) (of-containers ds)
 
-none-got : (o : Option ℕ) → option_to_list {X = Document} (option_and_then (slice_get []) o) ≡ []
-none-got None = refl
-none-got (Some i) = refl
+-- ---- segments, where this is what one selector selects
 
-none-by_step : (s : Slice) (step : ℤ) → by_step {A = Document} s step [] ≡ []
-none-by_step s (pos zero) = refl
-none-by_step s (pos (suc gap)) =
-    let from = bound_or s.start 0 0 in
-    let to = bound_or s.end 0 0 in
-    ap (λ ds. every gap 0 (drop from ds)) (take-nil to) ∙ ap (every gap 0) (drop-nil from)
-none-by_step s (negsuc gap) =
-    let floor = bound_after_or s.end 0 0 in
-    let end = bound_after_or s.start 0 0 in
-    ap (λ ds. every gap 0 (reverse (drop floor ds))) (take-nil end) ∙ ap (λ ds. every gap 0 (reverse ds)) (drop-nil floor)
+module _ {S : Type 0} (by : S → Document → List Document)
+    (scalar : (s : S) (d : Document) → is_container d ≡ false → by s d ≡ [])
+  where
+    scalar-all : (ss : List S) (d : Document) → is_container d ≡ false → by_all by ss d ≡ []
+    scalar-all [] d is = refl
+    scalar-all (s ∷ ss) d is = ap (λ xs. xs ++ by_all by ss d) (scalar s d is) ∙ scalar-all ss d is
 
-pub bare-entered : (b : Bool) (d : Document) → children d ≡ [] → entered b d ≡ []
-bare-entered false d bare = refl
-bare-entered true d bare = bare
+    pub selected-descendants : (s : Segment S) (d : Document) → s.is_descendant ≡ true
+        → selected_of by s d ≡ followed s.steps.now (flat_map (by_all by s.selectors.now) (containers d))
+    selected-descendants s d is =
+        let all = by_all by s.selectors.now in
+        ap (λ b. followed s.steps.now (flat_map all (visited b d))) is
+        ∙ ap (followed s.steps.now) (sym (of-containers all (scalar-all s.selectors.now) (descendants d)))
 
-bare-chosen : (c : Choice) (d : Document) → children d ≡ [] → chosen_by c d ≡ []
-bare-chosen (choice.Name name) (object no_members) bare = refl
-bare-chosen (choice.Name name) (object (member k d ms)) bare = cc
-bare-chosen (choice.Name name) _ bare = refl
-bare-chosen choice.Wildcard d bare = bare
-bare-chosen (choice.Index i) (array no_elements) bare = none-got (place i 0)
-bare-chosen (choice.Index i) (array (element d ds)) bare = cc
-bare-chosen (choice.Index i) _ bare = refl
-bare-chosen (choice.Slice s) (array no_elements) bare = none-by_step s s.step
-bare-chosen (choice.Slice s) (array (element d ds)) bare = cc
-bare-chosen (choice.Slice s) _ bare = refl
-
-module _ (root : Document) where
-  bare-selected_by : (s : Selector) (d : Document) → children d ≡ [] → selected_by root s d ≡ []
-  bare-selected_by (selector.Choice c) d bare = bare-chosen c d bare
-  bare-selected_by (selector.Filter test) d bare = ap (filter _) bare
-
-  pub bare-selected : (ss : List Selector) (d : Document) → children d ≡ [] → selected_by_all root ss d ≡ []
-  bare-selected [] d bare = refl
-  bare-selected (s ∷ ss) d bare = ap (λ xs. xs ++ selected_by_all root ss d) (bare-selected_by s d bare) ∙ bare-selected ss d bare
-
-  pub bare-selected_in : (room : ℕ) (s : Segment Selector) (ss : List (Segment Selector)) (d : Document) → children d ≡ []
-      → selected_in root (suc room) (s ∷ ss) d ≡ []
-  bare-selected_in room s ss d bare =
-      ap (λ ds. flat_map (selected_in root room ss) (followed s.steps.now ds)
-      ++ flat_map (selected_in root room (s ∷ ss)) (entered s.is_descendant d)) (bare-selected s.selectors.now d bare)
-      ∙ ap (flat_map (selected_in root room (s ∷ ss))) (bare-entered s.is_descendant d bare)
-
-  pub scalar-selected_in : (room : ℕ) (s : Segment Selector) (ss : List (Segment Selector)) (d : Document) → is_container d ≡ false
-      → selected_in root room (s ∷ ss) d ≡ []
-  scalar-selected_in zero s ss d scalar = ap (λ b. cond b (None ∷ []) []) scalar
-  scalar-selected_in (suc room) s ss d scalar = bare-selected_in room s ss d (scalar-children d scalar)
+    pub selected-child : (s : Segment S) (d : Document) → s.is_descendant ≡ false
+        → selected_of by s d ≡ followed s.steps.now (by_all by s.selectors.now d)
+    selected-child s d is =
+        let all = by_all by s.selectors.now in
+        ap (λ b. followed s.steps.now (flat_map all (visited b d))) is ∙ ap (followed s.steps.now) (append-nil (all d))

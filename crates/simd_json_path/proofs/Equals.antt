@@ -1,19 +1,15 @@
 -- When two values are equal: by their kinds, and by the names of two objects.
-use Rattle.std.proofs.Common.{◌≡◌, ◌∙◌, ap, sym, refl, ◌+◌, ℕ, zero, suc, List, [], ◌∷◌, drop, take, arith}
-use Rattle.std.proofs.Common.{inl, inr, Bool, true, false, cond, Option, Some, None}
-use Rattle.std.specs.Prelude.{◌&&◌, is_some, bytes_eq, nat_le}
+use Rattle.std.proofs.Common.{◌≡◌, ◌∙◌, ap, sym, refl, ◌+◌, ℕ, zero, suc, List, [], ◌∷◌, drop, take, arith, inl, inr, Bool, true, false}
+use Rattle.std.proofs.Common.{cond, Option, Some, None, ◌&&◌, is_some, bytes_eq, nat_le, drop-drop}
 use Rattle.std.specs.List.{list_all, list_any}
 use Rattle.std.proofs.lemmas.Bool.{cases_Bool, false≢true, or_cases}
-use Rattle.std.proofs.lemmas.List.{drop-drop}
 use Rattle.std.proofs.lemmas.List.Folds.{list_all-append}
 use Rattle.std.proofs.lemmas.Slice.Eq.{bytes_eq-Decides}
-use Rattle.simd_json_parts.specs.Document.{Document, null, boolean, integer, decimal, string, array, object, Elements, Members}
+use Rattle.simd_json_parts.specs.Document.{Document, integer, array, object, Members}
 use Rattle.simd_json_parts.specs.Document.{no_members, member}
-use Rattle.simd_json_parts.specs.Equality.{equal}
 use Rattle.simd_json_parts.specs.Views.{first_with, is_array, is_object, keys}
 use Rattle.simd_json_parts.specs.Integers.{integer_node, max_magnitude_64}
-use Rattle.simd_json_parts.specs.Listing.{listing}
-use Rattle.simd_json_parts.specs.Nodes.{Item, static_item}
+use Rattle.simd_json_parts.specs.Nodes.{static_item}
 use Rattle.simd_json_parts.specs.declared.node.StaticNode.{StaticNode}
 use Rattle.simd_json_path.specs.Operands.{item_primitive}
 use Rattle.simd_json_path.specs.Comparisons.{Primitive, both, both_or_none, primitive, same_at, same_members, same_primitives, same_to}
@@ -45,19 +41,6 @@ scalar-second (suc n) (object ms) (array es) p is = cc
 scalar-second (suc n) (object ms) (object ns) p is = cc
 scalar-second (suc n) (object ms) e p is = refl
 scalar-second (suc n) d e p is = ap (both same_primitives (primitive d)) (sym is)
-
-pub no-levels : (d e : Document) → primitive d ≡ None → equal d e ≡ same_to zero d e
-no-levels (array ds) e is = refl
-no-levels (object ms) e is = refl
-no-levels d e is = cc
-
-pub not-array : (n : ℕ) (ds : Elements) (e : Document) → is_array e ≡ false → false ≡ same_to (suc n) (array ds) e
-not-array n ds (array es) is = cc
-not-array n ds e is = refl
-
-pub not-object : (n : ℕ) (ms : Members) (e : Document) → is_object e ≡ false → false ≡ same_to (suc n) (object ms) e
-not-object n ms (object ns) is = cc
-not-object n ms e is = refl
 
 pub neither : (d : Document) → primitive d ≡ None → is_array d ≡ false → is_object d ≡ false → ⊥
 neither (array ds) is a b = cc
@@ -192,9 +175,6 @@ members-same f ms ns =
 
 -- ---- what the first node of a value tells
 
-cons-head : (i : Item) (is : List Item) (j : Item) (js : List Item) → i ∷ is ≡ j ∷ js → i ≡ j
-cons-head i is j js same = cc
-
 either-node : (b : Bool) (minus : Bool) (n : ℕ) (one other : StaticNode) → item_primitive (static_item one) ≡ primitive (integer minus n)
     → item_primitive (static_item other) ≡ primitive (integer minus n)
     → item_primitive (static_item (cond b one other)) ≡ primitive (integer minus n)
@@ -204,21 +184,3 @@ either-node false minus n one other is is' = is'
 of-integer : (minus : Bool) (n : ℕ) → item_primitive (static_item (integer_node minus n)) ≡ primitive (integer minus n)
 of-integer true n = either-node (nat_le n (max_magnitude_64 true)) true n _ _ refl refl
 of-integer false n = either-node (nat_le n (max_magnitude_64 false)) false n _ _ refl refl
-
-pub of-item : (d : Document) (i : Item) (is : List Item) → i ∷ is ≡ listing d → item_primitive i ≡ primitive d
-of-item null i is same = ap item_primitive (cons-head i is _ _ same)
-of-item (boolean b) i is same = ap item_primitive (cons-head i is _ _ same)
-of-item (integer minus n) i is same = ap item_primitive (cons-head i is _ _ same) ∙ of-integer minus n
-of-item (decimal literal) i is same = ap item_primitive (cons-head i is _ _ same)
-of-item (string t) i is same = ap item_primitive (cons-head i is _ _ same)
-of-item (array ds) i is same = ap item_primitive (cons-head i is _ _ same)
-of-item (object ms) i is same = ap item_primitive (cons-head i is _ _ same)
-
-pub of-none : (d : Document) → [] ≡ listing d → ⊥
-of-none null same = cc
-of-none (boolean b) same = cc
-of-none (integer minus n) same = cc
-of-none (decimal literal) same = cc
-of-none (string t) same = cc
-of-none (array ds) same = cc
-of-none (object ms) same = cc

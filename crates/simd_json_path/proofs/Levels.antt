@@ -1,14 +1,31 @@
 -- The bound of a comparison makes no difference where one of the two values nests no deeper.
-use Rattle.std.proofs.Common.{◌≡◌, ◌≤◌, ◌∙◌, ap, sym, refl, ℕ, zero, suc, List, [], ◌∷◌, ◌++◌, arith}
-use Rattle.std.proofs.Common.{Bool, Option, Some, None}
-use Rattle.std.specs.Prelude.{◌&&◌, min}
+use Rattle.std.proofs.Common.{◌≡◌, ◌≤◌, ◌∙◌, ap, sym, refl, ℕ, zero, suc, max, List, [], ◌∷◌, ◌++◌, arith, Bool, true, false, cond, Option}
+use Rattle.std.proofs.Common.{Some, None, ◌&&◌, bytes_eq, min}
 use Rattle.std.specs.List.{list_all}
 use Rattle.std.specs.Option.{option_to_list}
-use Rattle.simd_json_parts.specs.Document.{Document, array, object, elements, Members}
+use Rattle.simd_json_parts.specs.Document.{Document, array, object, Elements, no_elements, element, elements, Members, no_members, member}
 use Rattle.simd_json_parts.specs.Limits.{depth, elements_depth, members_depth}
 use Rattle.simd_json_parts.specs.Views.{first_with, keys}
 use Rattle.simd_json_path.specs.Comparisons.{IsComparison, both_or_none, compared, same_at, same_lists, same_members, same_to}
-use Rattle.simd_json_path.proofs.Heights.{height, height-elements, height-first}
+
+-- how many levels documents in a row have, with their own
+abbrev height : List Document → ℕ
+height [] = 0
+height (d ∷ ds) = max (suc (depth d)) (height ds)
+
+height-elements : (ds : Elements) → height (elements ds) ≤ suc (elements_depth ds)
+height-elements no_elements = omega arith
+height-elements (element d ds) = omega (arith, height-elements ds)
+
+height-cond : (b : Bool) (d : Document) (o : Option Document) (n : ℕ) → depth d ≤ n → height (option_to_list o) ≤ suc n
+    → height (option_to_list (cond b (Some d) o)) ≤ suc n
+height-cond true d o n here there = omega arith
+height-cond false d o n here there = there
+
+height-first : (key : List ℕ) (ms : Members) → height (option_to_list (first_with key ms)) ≤ suc (members_depth ms)
+height-first key no_members = omega arith
+height-first key (member k d ms) =
+    height-cond (bytes_eq k key) d (first_with key ms) (max (depth d) (members_depth ms)) (omega arith) (omega (arith, height-first key ms))
 
 -- two tests say the same of values of which one nests no deeper
 abbrev Agree : (Document → Document → Bool) → (Document → Document → Bool) → ℕ → Type 0

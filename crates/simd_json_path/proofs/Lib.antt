@@ -1,13 +1,10 @@
-pub mod Stacks
-pub mod Visits
 pub mod Segments
-pub mod Heights
 pub mod Bare
-pub mod Rooms
-pub mod Leaves
+pub mod Stacks
+pub mod Enough
 pub mod Slices
 pub mod Backs
 pub mod Equals
 pub mod Levels
-pub mod Sought
+pub mod NthNode
 pub mod Tests

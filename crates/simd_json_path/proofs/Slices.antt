@@ -7,7 +7,7 @@ use Rattle.simd_json_parts.specs.Document.{Document}
 use Rattle.simd_json_path.specs.Slices.{every, bound_or, forward}
 use Rattle.simd_json_query.specs.declared.query.Slice.{Slice}
 
-every-skip : {A : Type 0} (gap skip : ℕ) (xs : List A) → every gap skip xs ≡ every gap 0 (drop skip xs)
+pub every-skip : {A : Type 0} (gap skip : ℕ) (xs : List A) → every gap skip xs ≡ every gap 0 (drop skip xs)
 every-skip gap zero [] = refl
 every-skip gap (suc skip) [] = refl
 every-skip gap zero (x ∷ xs) = refl

@@ -1,6 +1,5 @@
 -- When a node passes a test (RFC 9535, section 2.3.5), in a query that is applied to a root.
-use Rattle.std.specs.Prelude.{◌-◌, ◌^◌, List, [], ◌∷◌, length, min, Bool, true, false, not, ◌&&◌, ◌||◌}
-use Rattle.std.specs.Prelude.{Option, Some, None, option_and_then}
+use Rattle.std.specs.Prelude.{◌-◌, ◌^◌, List, [], ◌∷◌, length, min, Bool, true, false, not, ◌&&◌, ◌||◌, Option, Some, None, option_and_then}
 use Rattle.std.specs.Option.{option_to_list}
 use Rattle.std.specs.Str.{chars}
 use Rattle.simd_json_parts.specs.Document.{Document, null, boolean, integer, decimal, string, array, object, elements, members}
@@ -45,8 +44,8 @@ length_of (object ms) = Some (integer false (length (members ms)))
 length_of _ = None
 
 -- `count` (section 2.4.5): how many, but no more than the greatest `usize`
-abbrev pub count_of : List Document → Document
-count_of ds = integer false (min (length ds) (2 ^ 64 - 1))
+abbrev pub count_value : List Document → Document
+count_value ds = integer false (min (length ds) (2 ^ 64 - 1))
 
 -- `value` (section 2.4.8)
 abbrev pub only : List Document → Option Document
@@ -57,7 +56,7 @@ abbrev pub operand : Document → Comparable → Document → Option Document
 operand root (comparable.Literal l) d = Some (literal_value l)
 operand root (comparable.Query q) d = selected_node root q d
 operand root (comparable.Length' p c) d = option_and_then length_of (operand root c d)
-operand root (comparable.Count q) d = Some (count_of (queried root q d))
+operand root (comparable.Count q) d = Some (count_value (queried root q d))
 operand root (comparable.Value q) d = only (queried root q d)
 
 -- ---- tests (section 2.3.5.2)

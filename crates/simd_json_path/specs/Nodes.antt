@@ -5,7 +5,7 @@ use Rattle.std.specs.Option.{option_to_list}
 use Rattle.simd_json_parts.specs.Document.{Document}
 use Rattle.simd_json_parts.specs.Views.{get}
 use Rattle.simd_json.specs.Beneath.{children, descendants}
-use Rattle.simd_json_path.specs.Places.{at_index}
+use Rattle.simd_json_path.specs.Indexes.{at_index}
 use Rattle.simd_json_path.specs.Slices.{sliced}
 use Rattle.simd_json_query.specs.declared.filter.Step.{Step}
 use Rattle.simd_json_query.specs.declared.filter.Step.TheVariants as step

@@ -1,8 +1,9 @@
 //! A slice that goes back.
 ghost use Rattle.std.specs.Prelude.{◌≡◌, ◌≤◌, length};
-ghost use Rattle.simd_json.specs.Viewed.{docs};
+ghost use Rattle.simd_json.specs.Viewed.{docs, doc};
 ghost use Rattle.simd_json_parts.specs.Document.{elements};
 ghost use Rattle.simd_json_path.specs.Slices.{bound_after, bound_after_or};
+ghost use Rattle.std.specs.Iterator.{YieldsFirstBy, item_count};
 
 use simd_json::tape::{Array, Value};
 use simd_json_query::Slice;
@@ -18,10 +19,7 @@ pub(crate) struct Back<'tape, 'input> {
 }
 
 impl<'tape, 'input> Back<'tape, 'input> {
-    ghost use Rattle.std.specs.Prelude.{◌≡◌};
-    ghost use Rattle.simd_json.specs.Viewed.{docs};
-    ghost use Rattle.simd_json_parts.specs.Document.{elements};
-    ghost use Rattle.simd_json_path.specs.Sliced.{back_left};
+    ghost use Rattle.simd_json_path.specs.SliceNodes.{back_left};
     ghost use Rattle.simd_json_path.specs.Slices.{backward};
 
     // What a slice selects, back.
@@ -41,9 +39,7 @@ impl<'tape, 'input> Back<'tape, 'input> {
 impl<'tape, 'input> Iterator for Back<'tape, 'input> {
     type Item = Value<'tape, 'input>;
 
-    ghost use Rattle.std.specs.Iterator.{YieldsFirstBy, item_count};
-    ghost use Rattle.simd_json.specs.Viewed.{doc};
-    ghost use Rattle.simd_json_path.specs.Sliced.{back_left};
+    ghost use Rattle.simd_json_path.specs.SliceNodes.{back_left};
 
     ghost next_gives = { YieldsFirstBy doc back_left };
 

@@ -1,7 +1,10 @@
 //! Children of a value.
 ghost use Rattle.std.specs.Prelude.{◌≡◌, option_map};
 ghost use Rattle.simd_json.specs.Viewed.{doc};
-ghost use Rattle.simd_json_path.specs.Places.{at_index};
+ghost use Rattle.simd_json_path.specs.Indexes.{at_index};
+ghost use Rattle.std.specs.Iterator.{YieldsFirstBy, item_count};
+ghost use Rattle.std.specs.Option.{option_to_list};
+ghost use Rattle.simd_json.specs.Beneath.{children};
 
 use crate::back::Back;
 use crate::slice::Every;
@@ -20,13 +23,8 @@ pub(crate) enum Children<'tape, 'input> {
 }
 
 impl<'tape, 'input> Children<'tape, 'input> {
-    ghost use Rattle.std.specs.Iterator.{YieldsFirstBy};
-    ghost use Rattle.std.specs.Option.{option_to_list};
-    ghost use Rattle.std.specs.Prelude.{◌≡◌, option_map};
-    ghost use Rattle.simd_json.specs.Beneath.{children};
-    ghost use Rattle.simd_json.specs.Viewed.{doc};
     ghost use Rattle.simd_json_path.specs.Slices.{sliced};
-    ghost use Rattle.simd_json_path.specs.Sliced.{children_left};
+    ghost use Rattle.simd_json_path.specs.SliceNodes.{children_left};
 
     // One, or none.
     #[inline(always)]
@@ -94,9 +92,7 @@ impl<'tape, 'input> Children<'tape, 'input> {
 impl<'tape, 'input> Iterator for Children<'tape, 'input> {
     type Item = Value<'tape, 'input>;
 
-    ghost use Rattle.std.specs.Iterator.{YieldsFirstBy, item_count};
-    ghost use Rattle.simd_json.specs.Viewed.{doc};
-    ghost use Rattle.simd_json_path.specs.Sliced.{children_left};
+    ghost use Rattle.simd_json_path.specs.SliceNodes.{children_left};
 
     ghost next_gives = { YieldsFirstBy doc children_left };
 

@@ -1,13 +1,14 @@
 //! Filters (RFC 9535, section 2.3.5): tests of a node.
-ghost use Rattle.std.specs.Prelude.{◌≡◌, option_map};
+ghost use Rattle.std.specs.Prelude.{◌≡◌, option_map, IfOk};
 ghost use Rattle.simd_json.specs.Viewed.{doc};
 ghost use Rattle.simd_json_parts.specs.Views.{get};
 ghost use Rattle.simd_json_path.specs.Filters.{holds, selected_node};
 ghost use Rattle.simd_json_path.specs.Nodes.{at_step, at_steps};
+ghost use Rattle.simd_json_query.specs.Queries.{FilterText};
 
 use crate::children::at_index;
+use crate::filter_query::exists;
 use crate::operand::{compares, operand_of};
-use crate::queried::exists;
 use bumpalo::Bump;
 use simd_json::tape::Value;
 use simd_json_query::{PathError, SingularQuery, Step, Test, read_filter};
@@ -21,10 +22,7 @@ pub struct Filter<'path> {
 }
 
 impl<'path> Filter<'path> {
-    ghost use Rattle.std.specs.Prelude.{◌≡◌, IfOk};
-    ghost use Rattle.simd_json.specs.Viewed.{doc};
     ghost use Rattle.simd_json_path.specs.Filters.{holds};
-    ghost use Rattle.simd_json_query.specs.Queries.{FilterText};
 
     /// The test of a text, in an arena: a logical expression, as `@.price < 10 && @.isbn`.
     ///
@@ -39,7 +37,7 @@ impl<'path> Filter<'path> {
 
     /// Whether the value passes the test (section 2.3.5.2). It allocates nothing, and recurses no
     /// deeper than parentheses, `!` and `length` are nested in the test; and in a query of it, once
-    /// for each of its segments, or with a descendant segment once for each level of the value.
+    /// for each of its segments.
     pub fn holds(&self, value: &Value<'_, '_>) -> bool
         ensures { result ≡ holds (doc value.now) self.now.test.now (doc value.now) }
     {

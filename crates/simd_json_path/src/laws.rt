@@ -1,27 +1,27 @@
 //! What holds of queries, frames and comparisons. Each function has an empty body: its contract is
 //! the law.
-ghost use Rattle.std.specs.Prelude.{true, ◌≡◌, ◌≤◌, ℕ, Bool, Some, is_some, map, min};
+ghost use Rattle.std.specs.Prelude.{true, ◌≡◌, ◌≤◌, ℕ, Bool, Some, is_some, length, map, min};
 ghost use Rattle.std.specs.List.{list_all};
 ghost use Rattle.simd_json_parts.specs.Document.{Document};
 ghost use Rattle.simd_json_parts.specs.Limits.{depth};
 ghost use Rattle.simd_json_path.specs.Comparisons.{IsComparison, same_to};
 ghost use Rattle.simd_json_path.specs.Paths.{selected};
-ghost use Rattle.simd_json_path.specs.Room.{frames_for, selected_within};
+ghost use Rattle.simd_json_path.specs.Frames.{selected_within};
 ghost use Rattle.simd_json_path.specs.declared.path.Path.{Path};
 
-/// With as many frames as [`Path::frames`](crate::Path::frames) returns for the depth of a value,
-/// no item is an error, and what is selected is what RFC 9535 says.
+/// With as many frames as there are segments, as [`Path::frames`](crate::Path::frames) returns, no
+/// item is an error, and what is selected is what RFC 9535 says.
 pub fn frames_suffice()
-    ensures { (path : Path) (d : Document) (room : ℕ)
-        → frames_for path (depth d) ≤ room
-        → selected_within room path d ≡ map Some (selected path d) }
+    ensures { (path : Path) (d : Document) (count : ℕ)
+        → length path.segments.now ≤ count
+        → selected_within count path d ≡ map Some (selected path d) }
 {}
 
 /// Where no item is an error, nothing is left out, however many frames there were.
 pub fn without_an_error_nothing_is_left_out()
-    ensures { (path : Path) (d : Document) (room : ℕ)
-        → list_all is_some (selected_within room path d) ≡ true
-        → selected_within room path d ≡ map Some (selected path d) }
+    ensures { (path : Path) (d : Document) (count : ℕ)
+        → list_all is_some (selected_within count path d) ≡ true
+        → selected_within count path d ≡ map Some (selected path d) }
 {}
 
 /// Where one of two values nests no deeper than the levels to which they are compared, they are

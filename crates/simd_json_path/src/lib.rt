@@ -48,15 +48,13 @@
 //!
 //! The queries of a filter take no frames. Each is evaluated for each value that is tested, up to
 //! its first node where the filter asks whether there is one, and up to the second for `value`. It
-//! recurses once for each segment after the first steps, and where one is a descendant segment at
-//! most once for each level of the value. `count` returns at most `usize::MAX`.
+//! recurses once for each segment after the first steps. `count` returns at most `usize::MAX`.
 //!
 //! # Frames
 //!
-//! A frame is a value at which a segment continues. [`Path::frames`] returns how many suffice: one
-//! for each segment, and if one is a descendant segment, one for each level of the document
-//! besides. With fewer nothing is left out silently: in the place of what lies beneath a value for
-//! which no frame is left, the iterator returns [`TooFewFrames`], and continues after it.
+//! A frame is the memory for one segment. [`Path::frames`] returns how many a query takes: one for
+//! each segment after the first steps, however deep the document is. With fewer nothing is
+//! selected: the iterator returns [`TooFewFrames`], and ends.
 //!
 //! # What is proved
 //!
@@ -69,21 +67,18 @@
 mod back;
 mod children;
 mod filter;
-mod followed;
+mod filter_query;
 mod frame;
 mod frames;
 pub mod laws;
-mod leaf;
-mod opened;
 mod operand;
 mod path;
-mod picked;
-mod queried;
 mod same;
 mod scalar;
+mod segment_nodes;
 mod selected;
+mod selector_nodes;
 mod slice;
-mod twig;
 
 pub use filter::Filter;
 pub use frame::Frame;

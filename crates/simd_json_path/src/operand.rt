@@ -8,7 +8,7 @@ ghost use Rattle.simd_json_path.specs.Filters.{length_of, operand};
 ghost use Rattle.simd_json_path.specs.Operands.{operand_value, scalar_value};
 
 use crate::filter::selected_node;
-use crate::queried::{count, only};
+use crate::filter_query::{count, only};
 use crate::same::same_to;
 use crate::scalar::Scalar;
 use simd_json::tape::Value;

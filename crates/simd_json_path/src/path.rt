@@ -1,10 +1,7 @@
 //! A query (RFC 9535, section 2.1): segments, each with selectors.
-ghost use Rattle.std.specs.Prelude.{◌≡◌};
-ghost use Rattle.simd_json_path.specs.Room.{are_children};
-
 use crate::filter::follow;
 use crate::frame::Frame;
-use crate::selected::Selected;
+use crate::selected::{Selected, TooFewFrames};
 use bumpalo::Bump;
 use simd_json::tape::Value;
 use simd_json_query::{PathError, Segment, Step, read};
@@ -22,12 +19,11 @@ pub struct Path<'path> {
 }
 
 impl<'path> Path<'path> {
-    ghost use Rattle.std.specs.Prelude.{◌≡◌, ◌-◌, ◌^◌, length, min};
+    ghost use Rattle.std.specs.Prelude.{◌≡◌, length, IfOk};
     ghost use Rattle.simd_json.specs.Viewed.{doc};
     ghost use Rattle.simd_json_query.specs.Queries.{Query};
-    ghost use Rattle.std.specs.Prelude.{IfOk};
-    ghost use Rattle.simd_json_path.specs.Left.{selected_left};
-    ghost use Rattle.simd_json_path.specs.Room.{frames_for, selected_within};
+    ghost use Rattle.simd_json_path.specs.Frames.{selected_within};
+    ghost use Rattle.simd_json_path.specs.IteratorNodes.{selected_left};
 
     /// The query of a text, in an arena.
     ///
@@ -40,23 +36,18 @@ impl<'path> Path<'path> {
         Ok(Path { steps, segments })
     }
 
-    /// How many frames suffice for a value whose arrays and objects are nested at most `depth`
-    /// deep, as the depth limit of its parse ensures: one for each segment, and if one is a
-    /// descendant segment, one for each level besides. It is `usize::MAX` where it would be more.
-    pub fn frames(&self, depth: usize) -> usize
-        ensures { result ≡ min (frames_for self.now depth) (2 ^ 64 - 1) }
+    /// How many frames suffice, for any value: one for each segment.
+    pub fn frames(&self) -> usize
+        ensures { result ≡ length self.now.segments.now }
     {
-        if are_children(self.segments) {
-            return self.segments.len();
-        }
-        self.segments.len().saturating_add(depth)
+        self.segments.len()
     }
 
     /// An iterator over the values that the query selects of a value, in order; one may come more
     /// than once. It allocates nothing.
     ///
     /// The frames are memory: what they hold does not matter. With fewer than
-    /// [`frames`](Path::frames) of the value's depth an item may be [`TooFewFrames`].
+    /// [`frames`](Path::frames) the only item is [`TooFewFrames`].
     pub fn select<'frames, 'tape, 'input>(
         &self,
         value: &Value<'tape, 'input>,
@@ -66,21 +57,12 @@ impl<'path> Path<'path> {
             ≡ selected_within (length frames.entry.now) self.now (doc value.now) }
     {
         let root = *value;
+        if frames.len() < self.segments.len() {
+            return Selected::only(Some(Err(TooFewFrames)), root, frames);
+        }
         match follow(self.steps, root) {
             Some(start) => Selected::new(self.segments, root, start, frames),
-            None => Selected::none(root, frames),
+            None => Selected::only(None, root, frames),
         }
     }
-}
-
-// Whether no segment is a descendant segment.
-fn are_children(segments: &[Segment<'_>]) -> bool
-    ensures { result ≡ are_children segments.now }
-{
-    for segment in segments {
-        if segment.is_descendant {
-            return false;
-        }
-    }
-    true
 }

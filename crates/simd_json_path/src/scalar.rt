@@ -1,7 +1,9 @@
 //! Primitive values, compared (RFC 9535, section 2.3.5.2.2).
-ghost use Rattle.std.specs.Prelude.{◌≡◌, pos};
+ghost use Rattle.std.specs.Prelude.{◌≡◌, pos, Some, option_map, false};
 ghost use Rattle.simd_json_path.specs.Comparisons.{number};
 ghost use Rattle.simd_json_path.specs.Operands.{scalar_value};
+ghost use Rattle.simd_json.specs.Viewed.{doc};
+ghost use Rattle.simd_json_parts.specs.Nodes.{item_of};
 
 use simd_json::tape::Value;
 use simd_json_number::Number;
@@ -19,14 +21,10 @@ pub(crate) enum Scalar<'text> {
 }
 
 impl<'text> Scalar<'text> {
-    ghost use Rattle.std.specs.Prelude.{◌≡◌, Some, option_map};
-    ghost use Rattle.simd_json.specs.Viewed.{doc};
     ghost use Rattle.simd_json_parts.specs.Document.{integer};
     ghost use Rattle.simd_json_path.specs.Comparisons.{less_primitives, primitive, same_primitives};
     ghost use Rattle.simd_json_path.specs.Filters.{literal_value};
     ghost use Rattle.simd_json_path.specs.Operands.{item_primitive, scalar_value};
-    ghost use Rattle.simd_json_parts.specs.Nodes.{item_of};
-    ghost use Rattle.std.specs.Prelude.{false};
 
     pub(crate) fn of(value: Value<'_, 'text>) -> Option<Scalar<'text>>
         ensures { option_map scalar_value result ≡ primitive (doc value.entry) }

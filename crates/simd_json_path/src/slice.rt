@@ -2,6 +2,8 @@
 ghost use Rattle.std.specs.Prelude.{◌≡◌, drop, length};
 ghost use Rattle.simd_json.specs.Iterated.{elements_left};
 ghost use Rattle.simd_json_path.specs.Slices.{bound, bound_or};
+ghost use Rattle.simd_json.specs.Viewed.{docs, doc};
+ghost use Rattle.std.specs.Iterator.{YieldsFirstBy, item_count};
 
 use simd_json::tape::{Array, Value, array};
 use simd_json_query::Slice;
@@ -15,10 +17,8 @@ pub(crate) struct Every<'tape, 'input> {
 }
 
 impl<'tape, 'input> Every<'tape, 'input> {
-    ghost use Rattle.std.specs.Prelude.{◌≡◌};
-    ghost use Rattle.simd_json.specs.Viewed.{docs};
     ghost use Rattle.simd_json_parts.specs.Document.{elements};
-    ghost use Rattle.simd_json_path.specs.Sliced.{every_left};
+    ghost use Rattle.simd_json_path.specs.SliceNodes.{every_left};
     ghost use Rattle.simd_json_path.specs.Slices.{forward};
 
     // What a slice selects, forward.
@@ -41,9 +41,7 @@ impl<'tape, 'input> Every<'tape, 'input> {
 impl<'tape, 'input> Iterator for Every<'tape, 'input> {
     type Item = Value<'tape, 'input>;
 
-    ghost use Rattle.std.specs.Iterator.{YieldsFirstBy, item_count};
-    ghost use Rattle.simd_json.specs.Viewed.{doc};
-    ghost use Rattle.simd_json_path.specs.Sliced.{every_left};
+    ghost use Rattle.simd_json_path.specs.SliceNodes.{every_left};
 
     ghost next_gives = { YieldsFirstBy doc every_left };
 

@@ -1,5 +1,4 @@
-use Rattle.std.proofs.Common.{◌≡◌, ◌≤◌, ◌-◌, ◌++◌, drop, take}
-use Rattle.std.specs.Prelude.{◌-ℤ◌, replicate}
+use Rattle.std.proofs.Common.{◌≡◌, ◌≤◌, ◌-◌, ◌++◌, drop, take, ◌-ℤ◌, replicate}
 use Rattle.std.specs.Int.Digits.{number_from_digits}
 use Rattle.simd_json_parts.specs.Integers.{number_of}
 use Rattle.simd_json_parts.specs.Numbers.{has_minus}

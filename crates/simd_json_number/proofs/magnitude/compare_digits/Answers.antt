@@ -1,5 +1,4 @@
-use Rattle.std.proofs.Common.{◌≡◌, ◌∙◌, ap, sym, ◌-◌, ℕ, suc, List, drop, arith}
-use Rattle.std.specs.Prelude.{slice_index}
+use Rattle.std.proofs.Common.{◌≡◌, ◌∙◌, ap, sym, ◌-◌, ℕ, suc, List, drop, arith, slice_index}
 use Rattle.std.specs.Ordering.{ordering_then}
 use Rattle.simd_json_number.specs.Padded.{compare_first, digits_left}
 use Rattle.simd_json_number.proofs.DigitLists.{equal-is}

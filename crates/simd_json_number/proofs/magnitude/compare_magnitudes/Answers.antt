@@ -1,5 +1,4 @@
-use Rattle.std.proofs.Common.{◌≡◌, sym, ◌<◌, length, rules}
-use Rattle.std.specs.Prelude.{◌-ℤ◌}
+use Rattle.std.proofs.Common.{◌≡◌, sym, ◌<◌, length, rules, ◌-ℤ◌}
 use Rattle.simd_json_number.specs.Magnitudes.{exponent, magnitude}
 use Rattle.simd_json_number.specs.Numbers.{digits, positive_part}
 use Rattle.simd_json_number.proofs.DigitLists.{greater-is, less-is, number-none}

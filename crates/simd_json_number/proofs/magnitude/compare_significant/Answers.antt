@@ -1,15 +1,14 @@
-use Rattle.std.proofs.Common.{◌≡◌, ◌∙◌, ap, sym, ℕ, max, length, arith}
-use Rattle.std.specs.Prelude.{ℤ}
+use Rattle.std.proofs.Common.{◌≡◌, ◌∙◌, ap, sym, ℕ, max, length, arith, ℤ}
 use Rattle.std.proofs.lemmas.Int.{ints}
 use Rattle.simd_json_number.specs.Magnitudes.{first_apart}
-use Rattle.simd_json_number.specs.declared.literal.Literal.{Literal}
+use Rattle.simd_json_number.specs.declared.literal.LiteralParts.{LiteralParts}
 use Rattle.simd_json_number.specs.Numbers.{digits, integer}
 use Rattle.simd_json_number.specs.Padded.{compare_first}
 use Rattle.simd_json_number.proofs.DigitLists.{digits-below}
 use Rattle.simd_json_number.proofs.Orders.{AreApart, greater-first, less-first, level-first}
 use Rattle.simd_json_number.proofs.magnitude.compare_significant.Goals as goal
 
-counted : (l r : Literal) (n m : ℕ) (apart : ℤ) → apart ≡ first_apart l n r m
+counted : (l r : LiteralParts) (n m : ℕ) (apart : ℤ) → apart ≡ first_apart l n r m
     → n ≡ length (digits l.significant.now) → m ≡ length (digits r.significant.now)
     → apart ≡ first_apart l (length (digits l.significant.now)) r (length (digits r.significant.now))
 counted l r n m apart is left right = is ∙ ap (λ k. first_apart l k r m) left

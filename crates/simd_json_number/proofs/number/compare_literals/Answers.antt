@@ -6,7 +6,7 @@ use Rattle.std.proofs.lemmas.Int.{ints}
 use Rattle.simd_json_parts.specs.Integers.{number_of}
 use Rattle.simd_json_number.specs.Magnitudes.{exponent, magnitude, scaled_magnitude, value}
 use Rattle.simd_json_number.specs.Numbers.{compare, digits, positive_part}
-use Rattle.simd_json_number.specs.declared.literal.Literal.{Literal}
+use Rattle.simd_json_number.specs.declared.literal.LiteralParts.{LiteralParts}
 use Rattle.simd_json_number.proofs.Orders.{some-number, some-scaled}
 use Rattle.simd_json_number.proofs.number.compare_literals.Goals as goal
 
@@ -15,7 +15,7 @@ times false c k = refl
 times true zero k = omega (arith, ints)
 times true (suc c) k = refl
 
-signed : (s t : Bool) (l r : Literal) → l.is_negative ≡ s → r.is_negative ≡ t
+signed : (s t : Bool) (l r : LiteralParts) → l.is_negative ≡ s → r.is_negative ≡ t
     → compare (value l) (value r) ≡ int_cmp (number_of s (scaled_magnitude l r)) (number_of t (scaled_magnitude r l))
 signed s t l r is is' =
     let p = 10 ^ positive_part (exponent l -ℤ exponent r) in
@@ -25,7 +25,7 @@ signed s t l r is is' =
     ∙ ap (λ (b : Bool). int_cmp (number_of b (magnitude l * p)) (number_of r.is_negative (magnitude r * q))) is
     ∙ ap (λ (b : Bool). int_cmp (number_of s (magnitude l * p)) (number_of b (magnitude r * q))) is'
 
-some-magnitude : (l r : Literal) → l.is_negative ≡ true → 0 < scaled_magnitude l r
+some-magnitude : (l r : LiteralParts) → l.is_negative ≡ true → 0 < scaled_magnitude l r
 some-magnitude l r is =
     some-scaled (magnitude l) (positive_part (exponent l -ℤ exponent r))
     (some-number (digits l.significant.now) (l.leading (l.below_zero (search rules))))

@@ -1,4 +1,4 @@
-use Rattle.simd_json_path.proofs.Rooms.{path-enough}
+use Rattle.simd_json_path.proofs.Enough.{path-enough}
 use Rattle.simd_json_path.proofs.laws.frames_suffice.Goals as goal
 
 pub returns : goal.returns

@@ -1,5 +1,4 @@
-use Rattle.std.proofs.Common.{◌≡◌, ◌∙◌, ap, sym, Option, Some, None, refl}
-use Rattle.std.specs.Prelude.{false, option_and_then}
+use Rattle.std.proofs.Common.{◌≡◌, ◌∙◌, ap, sym, Option, Some, None, refl, false, option_and_then}
 use Rattle.simd_json_parts.specs.Document.{Document, integer}
 use Rattle.simd_json_path.specs.Comparisons.{Primitive, both, equals, primitive, same, same_primitives}
 use Rattle.simd_json_path.specs.Filters.{literal_value}

@@ -1,5 +1,4 @@
-use Rattle.std.proofs.Common.{◌∙◌, ap, sym}
-use Rattle.std.specs.Prelude.{false, Some}
+use Rattle.std.proofs.Common.{◌∙◌, ap, sym, false, Some}
 use Rattle.simd_json.specs.Viewed.{doc}
 use Rattle.simd_json_parts.specs.Document.{integer}
 use Rattle.simd_json_path.specs.Comparisons.{equals, same}

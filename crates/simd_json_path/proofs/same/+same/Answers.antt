@@ -1,5 +1,4 @@
-use Rattle.std.proofs.Common.{◌≡◌, ◌∙◌, ap, sym, ◌-◌, ℕ, suc, ◌∷◌, drop, take, true, false, arith, rules, bytes_eq}
-use Rattle.std.specs.Prelude.{◌&&◌, is_some}
+use Rattle.std.proofs.Common.{◌≡◌, ◌∙◌, ap, sym, ◌-◌, ℕ, suc, ◌∷◌, drop, take, true, false, arith, rules, bytes_eq, ◌&&◌, is_some}
 use Rattle.std.specs.List.{list_all, list_any}
 use Rattle.simd_json.specs.Iterated.{keys_left}
 use Rattle.simd_json.specs.Viewed.{doc, pairs}

@@ -1,5 +1,4 @@
-use Rattle.std.proofs.Common.{◌≡◌, ◌∙◌, ap, sym, arith}
-use Rattle.std.specs.Prelude.{pos}
+use Rattle.std.proofs.Common.{◌≡◌, ◌∙◌, ap, sym, arith, pos}
 use Rattle.simd_json_parts.specs.Integers.{number_of}
 use Rattle.simd_json_number.specs.Magnitudes.{magnitude, value}
 use Rattle.simd_json_number.specs.Meanings.{number}
