@@ -1,7 +1,6 @@
 -- An input that is answered as a document, at any depth limit, has no fault of the whole, and is that document along its
 -- structural indexes.
-use Rattle.std.proofs.Common.{◌≡◌, refl, ap, subst, ℕ, inr, List, [], ◌∷◌, length, arith}
-use Rattle.std.specs.Prelude.{Result, Ok, Err, Option, Some, None}
+use Rattle.std.proofs.Common.{◌≡◌, refl, ap, subst, ℕ, inr, List, [], ◌∷◌, length, arith, Result, Ok, Err, Option, Some, None}
 use Rattle.simd_json_parts.specs.Answer.{answer, fault_or}
 use Rattle.simd_json_parts.specs.Document.{Document}
 use Rattle.simd_json_parts.specs.Tokens.{Token, tokens}

@@ -3,7 +3,7 @@ use Rattle.std.proofs.Common.{◌≡◌, refl, sym, ◌∙◌, ap, ℕ, zero, su
 use Rattle.std.proofs.Common.{add-zero, arith}
 use Rattle.std.proofs.lemmas.Bool.{and_parts}
 use Rattle.simd_json_parts.proofs.Tables.{agree, lists_tests}
-use Rattle.simd_json_ondemand.specs.Walks.{begins_value}
+use Rattle.simd_json_ondemand.specs.Walks.{may_begin_value}
 
 agree-same : (t u : Bool) → agree t u ≡ true → t ≡ u
 agree-same true true e = refl
@@ -18,5 +18,5 @@ tests-from f k (t ∷ ts) (suc i) all l =
     let later : suc k + i ≡ k + suc i = omega arith in
     tests-from f (suc k) ts i (and_parts _ _ all).1 (omega arith) ∙ ap f later
 
-pub beginnings : (ts : List Bool) (c : ℕ) → lists_tests begins_value 0 ts ≡ true → c < length ts → get_or ts c false ≡ begins_value c
-beginnings ts c all l = let same : 0 + c ≡ c = omega arith in tests-from begins_value 0 ts c all l ∙ ap begins_value same
+pub beginnings : (ts : List Bool) (c : ℕ) → lists_tests may_begin_value 0 ts ≡ true → c < length ts → get_or ts c false ≡ may_begin_value c
+beginnings ts c all l = let same : 0 + c ≡ c = omega arith in tests-from may_begin_value 0 ts c all l ∙ ap may_begin_value same

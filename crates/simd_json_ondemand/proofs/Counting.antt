@@ -1,8 +1,6 @@
 -- The count of open containers, token by token and group by group.
-use Rattle.std.proofs.Common.{◌≡◌, refl, sym, ◌∙◌, ap, ap₂, ℕ, zero, suc, ◌+◌, ◌-◌, ◌<◌, ◌≤◌, Bool, true, false, ◌==◌, cond, eqb, inl}
-use Rattle.std.proofs.Common.{inr, w8, Fits}
-use Rattle.std.proofs.Common.{List, [], ◌∷◌, ◌++◌, length, map, take, drop, get_or, bit_or, add-one, arith}
-use Rattle.std.proofs.Common.{take-append-drop}
+use Rattle.std.proofs.Common.{◌≡◌, refl, sym, ◌∙◌, ap, ap₂, ℕ, zero, suc, ◌+◌, ◌-◌, ◌<◌, ◌≤◌, Bool, true, false, ◌==◌, cond, eqb, inl, inr}
+use Rattle.std.proofs.Common.{w8, Fits, List, [], ◌∷◌, ◌++◌, length, map, take, drop, get_or, bit_or, add-one, arith, take-append-drop}
 use Rattle.std.specs.List.{count_by}
 use Rattle.std.proofs.lemmas.Bool.{or_cases, eqb-true, ne_eqb}
 use Rattle.std.proofs.lemmas.List.{get_or_default, length-map, length-drop, length-take-le, drop-drop, drop_more, map-append}
@@ -53,10 +51,6 @@ closed_at-step b is i (suc n) l some =
     let same : suc n - 1 ≡ n = omega arith in
     ap (λ js. closed_at (suc n) (first_bytes b js)) (drop-cons is i 0 l)
     ∙ ap₂ (λ m k. suc (closed_at (open_after m (byte_at b (get_or is i 0))) (first_bytes b (drop k is)))) (sym same) (sym (add-one i))
-
-pub byte-le : (t : Bool) → bool_byte t ≤ 1
-byte-le true = omega arith
-byte-le false = omega arith
 
 -- as the code tests it
 module _ (b is : List ℕ) (within : AreWithin b is) (bytes : (i : ℕ) → Fits w8 (get_or b i 0)) (i depth : ℕ) (l : i < length is)

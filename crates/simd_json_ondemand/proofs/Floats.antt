@@ -1,6 +1,6 @@
 -- The literal of a number is the text of a float: a reader of floats (`float_scan_step`) comes to its end.
-use Rattle.std.proofs.Common.{◌≡◌, refl, sym, ◌∙◌, ap, ℕ, ◌+◌, ◌≤◌, List, [], ◌∷◌, ◌++◌, true, ◌||◌, ◌&&◌, ◌==◌, cond, nat_lt, arith}
-use Rattle.std.proofs.Common.{inl, inr, ◌-◌, take, drop, Option, Some, None}
+use Rattle.std.proofs.Common.{◌≡◌, refl, sym, ◌∙◌, ap, ℕ, ◌+◌, ◌≤◌, List, [], ◌∷◌, ◌++◌, true, ◌||◌, ◌&&◌, ◌==◌, cond, nat_lt, arith, inl}
+use Rattle.std.proofs.Common.{inr, ◌-◌, take, drop, Option, Some, None, append_assoc, append-nil}
 use Rattle.std.specs.Prelude.{Result, Ok, Err, IfOk, is_some, option_map, option_and_then, slice_range}
 use Rattle.std.specs.Float.{binary64}
 use Rattle.std.specs.Float.Ieee.{Float}
@@ -9,7 +9,6 @@ use Rattle.std.specs.Char.{is_ascii_digit}
 use Rattle.std.specs.Float.Parse.{float_scan_step, completes_number, without_sign, is_infinity_text, is_nan_text, is_float_text}
 use Rattle.std.proofs.lemmas.Bool.{cases_Bool, cond_both, and_parts}
 use Rattle.std.proofs.lemmas.Float.Parse.{is_some-parse_float}
-use Rattle.std.proofs.lemmas.List.{append_assoc, append-nil}
 use Rattle.fast_float.specs.Parse.{parse_float}
 use Rattle.simd_json_parts.proofs.Patterns.Sets.{matches-Matches}
 use Rattle.simd_json_parts.specs.Bytes.{byte_at, is_terminator}

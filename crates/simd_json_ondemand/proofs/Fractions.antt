@@ -1,21 +1,18 @@
 -- A number with a fraction and no exponent: what a scan finds of it is its literal, and the float nearest to it.
-use Rattle.std.proofs.Common.{◌≡◌, refl, sym, ◌∙◌, ap, subst, ℕ, suc, ◌+◌, ◌-◌, ◌<◌, ◌≤◌, List, [], ◌∷◌, ◌++◌, length, take, drop}
-use Rattle.std.proofs.Common.{get_or, Bool, true, false, cond, ◌==◌, ◌&&◌, inl, inr, arith}
-use Rattle.std.specs.Prelude.{Some, slice_index, slice_range}
+use Rattle.std.proofs.Common.{◌≡◌, refl, sym, ◌∙◌, ap, subst, ℕ, suc, ◌+◌, ◌-◌, ◌<◌, ◌≤◌, List, [], ◌∷◌, ◌++◌, length, take, drop, get_or}
+use Rattle.std.proofs.Common.{Bool, true, false, cond, ◌==◌, ◌&&◌, inl, inr, arith, Some, slice_index, slice_range, take-add}
 use Rattle.std.specs.Char.{is_ascii_digit}
 use Rattle.std.specs.Float.{binary64}
-use Rattle.std.specs.Float.Numeral.{Parts, scan_numeral, digits_end, exponent_start, exponent_text, has_exponent, text_of}
-use Rattle.std.specs.Float.Numeral.{nearest_float}
+use Rattle.std.specs.Float.Numeral.{Parts, scan_numeral, digits_end, exponent_start, exponent_text, has_exponent, text_of, nearest_float}
 use Rattle.std.specs.Float.Parse.{parse_float}
 use Rattle.std.specs.Fmt.{sign_text}
 use Rattle.std.specs.List.{prefix_len}
 use Rattle.std.specs.Str.Parse.{AllDigits}
 use Rattle.std.proofs.lemmas.Bool.{eqb-true, eq-eqb, ne_eqb, cond_both, false≢true}
 use Rattle.std.proofs.lemmas.Float.Parse.{parse_float-text_of}
-use Rattle.std.proofs.lemmas.List.{append-nil, drop-drop, drop_more, get_or-drop, get_or-take, get_or_default, length-drop}
-use Rattle.std.proofs.lemmas.List.{length-take, length-take-le}
+use Rattle.std.proofs.lemmas.List.{append-nil, drop-drop, drop_more, get_or-drop, get_or-take, get_or_default, length-drop, length-take}
+use Rattle.std.proofs.lemmas.List.{length-take-le}
 use Rattle.std.proofs.lemmas.List.Sums.{prefix_len-le-length}
-use Rattle.std.proofs.Math.Seq.{take-add}
 use Rattle.simd_json_parts.specs.Bytes.{byte_at, is_terminator}
 use Rattle.simd_json_scalars.specs.NumeralRead.{IsNumeralAt}
 use Rattle.simd_json_scalars.specs.declared.numberparse.Numeral.TheVariants.{Decimal}

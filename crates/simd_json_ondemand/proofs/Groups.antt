@@ -1,9 +1,8 @@
 -- Brackets among the first bytes of a group, as bits of a word.
-use Rattle.std.proofs.Common.{◌≡◌, refl, sym, ◌∙◌, ap, ap₂, ℕ, suc, ◌+◌, ◌-◌, ◌%◌, ◌^◌, ◌<◌, ◌≤◌, Bool, cond, eqb, w8, Fits}
-use Rattle.std.proofs.Common.{List, [], ◌∷◌, length, map, take, drop, get_or, slice_index_or, replicate, bit_or, arith}
+use Rattle.std.proofs.Common.{◌≡◌, refl, sym, ◌∙◌, ap, ap₂, ℕ, suc, ◌+◌, ◌-◌, ◌%◌, ◌^◌, ◌<◌, ◌≤◌, Bool, cond, eqb, w8, Fits, List, [], ◌∷◌}
+use Rattle.std.proofs.Common.{length, map, take, drop, get_or, slice_index_or, replicate, bit_or, arith, drop-cons}
 use Rattle.std.proofs.lemmas.List.{get_or_default}
 use Rattle.std.proofs.lemmas.Simd.{bitmask_splat, zip2_splat, length-zip2, map-map}
-use Rattle.std.proofs.Math.Seq.{drop-cons}
 use lib.Lanes.{zip2, mask_l, top, Each1}
 use Rattle.simd_json_parts.specs.Bytes.{byte_at, is_closing, is_opening}
 use Rattle.simd_json_stages.proofs.Scan.Bits.Computed.{upto_sound, same, same_is}

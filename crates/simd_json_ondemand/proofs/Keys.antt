@@ -1,8 +1,7 @@
 -- Strings compared with a key as they are written.
 use Rattle.std.proofs.Common.{◌≡◌, ◌≢◌, refl, sym, ◌∙◌, ap, subst, ℕ, zero, suc, ◌+◌, ◌-◌, ◌<◌, ◌≤◌, inl, inr, List, [], ◌∷◌, ◌++◌, length}
-use Rattle.std.proofs.Common.{take, drop, get_or, Bool, true, false, cond, not, ◌||◌, ◌&&◌, ◌==◌, nat_eq, bytes_eq, ◌%◌, ◌^◌}
-use Rattle.std.proofs.Common.{map, w8, arith}
-use Rattle.std.specs.Prelude.{Some, None, Option, is_some, option_map}
+use Rattle.std.proofs.Common.{take, drop, get_or, Bool, true, false, cond, not, ◌||◌, ◌&&◌, ◌==◌, nat_eq, bytes_eq, ◌%◌, ◌^◌, map, w8}
+use Rattle.std.proofs.Common.{arith, Some, None, Option, is_some, option_map}
 use Rattle.std.specs.List.{prefix_len}
 use Rattle.std.proofs.lemmas.Bool.{cases_Bool, cases_eq, cases_lt, eqb-true, ne_eqb, eq-eqb, false≢true, false_from_ne_true}
 use Rattle.std.proofs.lemmas.List.{length-drop, drop-drop, get_or-drop, get_or-take, length-take-le}
@@ -19,7 +18,7 @@ use Rattle.simd_json_scalars.proofs.Strings.Reader.{content-closed, read_pieces-
 use Rattle.simd_json_scalars.proofs.Strings.Steps.{PassesPieces, plain-passes, escape-passes, escape-stops}
 use Rattle.simd_json_ondemand.proofs.Quoted.{stop-other}
 use Rattle.simd_json_ondemand.specs.Keys.{is_key}
-use Rattle.simd_json_ondemand.specs.Wanted.{AgreesTo, IsWanted, key_of, names, read_string}
+use Rattle.simd_json_ondemand.specs.WantedKey.{AgreesTo, IsWanted, key_of, names, read_string}
 use lib.Lanes.{zip2, mask_l, top}
 use lib.Count.{count_trailing_zeros}
 use Rattle.std.proofs.lemmas.Simd.{tops_compared, mask_l-mod, length-zip2, leading_from_mask_l, trailing_mask_l}

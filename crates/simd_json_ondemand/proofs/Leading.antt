@@ -15,11 +15,11 @@ use Rattle.simd_json_ondemand.specs.Stopped.{told}
 use Rattle.simd_json_ondemand.specs.Walks.{found}
 use Rattle.simd_json_ondemand.specs.declared.unexpected.Expected.TheVariants.{Container}
 use Rattle.simd_json_ondemand.specs.declared.value.Value.{Value}
-use Rattle.simd_json_ondemand.specs.declared.walk.Stop.{Stop}
+use Rattle.simd_json_ondemand.specs.declared.walk.StoppedAt.{StoppedAt}
 use Rattle.simd_json_ondemand.proofs.Pointers.{IsFollowed, IsFollowed-further, IsFollowed-none, led-nowhere, led-there, nowhere}
 use Rattle.simd_json_ondemand.proofs.Sites.{is-step, on-all, on-behind, on-nothing, on-token}
 
-abbrev pub Named : Value → List ℕ → Result (Option Value) Stop → Type 0
+abbrev pub Named : Value → List ℕ → Result (Option Value) StoppedAt → Type 0
 Named v t found = told (option_map site) found ≡ named_at t (site v)
 
 -- the first i bytes of the pointer lead from v to w
@@ -58,19 +58,19 @@ module _ (p : List ℕ) (v : Value) (i : ℕ) (u : Value) (led : IsLed p v i u) 
 
   -- to a token that leads nowhere, or to no token
   module _ (e : ℕ) (at : IsTokenAt p i e) where
-    pub walk-at : (found : Result (Option Value) Stop) → Named u (slice_range p (i + 1) e) found
+    pub walk-at : (found : Result (Option Value) StoppedAt) → Named u (slice_range p (i + 1) e) found
         → pointed_at p (site v) ≡ reach_further (told (option_map site) found) (followed_at (tokens_after (drop e p)))
     walk-at found step =
         led.ahead ∙ on-token p i e at (site u) ∙ ap (λ r. reach_further r (followed_at (tokens_after (drop e p)))) (sym step)
 
-    pub document-at : (r : Result (Option Value) Stop) → found r ≡ None → Named u (slice_range p (i + 1) e) r
+    pub document-at : (r : Result (Option Value) StoppedAt) → found r ≡ None → Named u (slice_range p (i + 1) e) r
         → (d : Document) → doc v ≡ Some d → None ≡ option_map (λ (x : Document). Some x) (result_ok (pointed p d))
     document-at r none step =
         led-nowhere p v u i led.led at.begins.0
         (λ d h. stuck-at-token p i e d at
         (nowhere _ (ap (option_map doc) (sym none) ∙ (is-step (slice_range p (i + 1) e) u d h r step).finds)))
 
-    pub container-at : (s : Stop) → Named u (slice_range p (i + 1) e) (Err s) → (d : Document) → doc v ≡ Some d
+    pub container-at : (s : StoppedAt) → Named u (slice_range p (i + 1) e) (Err s) → (d : Document) → doc v ≡ Some d
         → s.expected ≡ Container
     container-at s step d h =
         let there = led.led d h in

@@ -1,10 +1,8 @@
 -- Where the string or scalar ends that stands at an index.
-use Rattle.std.proofs.Common.{◌≡◌, refl, sym, ◌∙◌, ap, subst, ℕ, suc, ◌+◌, ◌≤◌, List, [], ◌∷◌, length, take, drop, false, true}
-use Rattle.std.proofs.Common.{◌&&◌, ◌==◌, nat_eq, arith}
-use Rattle.std.specs.Prelude.{Option, Some, None, Result, Ok, Err, IfOk, nat_lt, codes}
+use Rattle.std.proofs.Common.{◌≡◌, refl, sym, ◌∙◌, ap, subst, ℕ, suc, ◌+◌, ◌≤◌, List, [], ◌∷◌, length, take, drop, false, true, ◌&&◌, ◌==◌}
+use Rattle.std.proofs.Common.{nat_eq, arith, Option, Some, None, Result, Ok, Err, IfOk, nat_lt, codes, length-drop}
 use Rattle.std.specs.List.{starts_with}
 use Rattle.std.proofs.lemmas.Bool.{cond_both, and_parts, false≢true}
-use Rattle.std.proofs.lemmas.List.{length-drop}
 use Rattle.simd_json_parts.specs.Bytes.{byte_at, is_terminator, quote}
 use Rattle.simd_json_parts.specs.AtomAt.{atom_at}
 use Rattle.simd_json_parts.specs.Derivatives.{matches, longest_prefix}

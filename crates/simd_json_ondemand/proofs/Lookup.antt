@@ -20,7 +20,7 @@ use Rattle.simd_json_stages.proofs.Tokens.TokenForms.{quotes}
 use Rattle.simd_json_ondemand.specs.Docs.{text, places, index_of, doc}
 use Rattle.simd_json_ondemand.specs.Keys.{is_key}
 use Rattle.simd_json_ondemand.specs.Viewed.{first_read, read_along}
-use Rattle.simd_json_ondemand.specs.Wanted.{read_string}
+use Rattle.simd_json_ondemand.specs.WantedKey.{read_string}
 use Rattle.simd_json_ondemand.specs.Within.{AreInSameObject}
 use Rattle.simd_json_ondemand.specs.declared.object.Object.{Object}
 use Rattle.simd_json_ondemand.specs.declared.value.Value.{Value}

@@ -1,18 +1,16 @@
 -- A JSON Pointer, over values of documents.
-use Rattle.std.proofs.Common.{◌≡◌, refl, sym, ◌∙◌, ap, ℕ, ◌+◌, ◌<◌, ◌≤◌, List, length}
-use Rattle.std.proofs.Common.{drop, true, false, ◌==◌, arith}
+use Rattle.std.proofs.Common.{◌≡◌, refl, sym, ◌∙◌, ap, ℕ, ◌+◌, ◌<◌, ◌≤◌, List, length, drop, true, false, ◌==◌, arith, eqb-true}
 use Rattle.std.specs.Prelude.{Option, Some, None, is_some, option_map, option_and_then, ◌^◌}
 use Rattle.std.specs.List.{slice_range}
 use Rattle.std.specs.Result.{result_ok}
-use Rattle.std.proofs.lemmas.Bool.{eqb-true}
 use Rattle.std.proofs.lemmas.List.{length-drop, length-map}
 use Rattle.simd_json_parts.specs.Bytes.{byte_at}
 use Rattle.simd_json_parts.specs.Document.{Document, array, object, Elements, elements, Members}
 use Rattle.simd_json_parts.specs.Followed.{IsTokenAt, first_step, fits_64}
 use Rattle.simd_json_parts.specs.Pointed.{array_index, member_at, named, pointed, pointed_from, unescaped}
 use Rattle.simd_json_parts.specs.Views.{as_array, get_idx, is_array}
-use Rattle.simd_json_parts.proofs.Pointers.Pointed.{element-fits, element-past, further, member-here, member-later, member-none}
-use Rattle.simd_json_parts.proofs.Pointers.Pointed.{some-left, stop-of}
+use Rattle.simd_json_parts.proofs.Pointers.Pointed.{element-fits, element-past, further, member-here, member-later, member-none, some-left}
+use Rattle.simd_json_parts.proofs.Pointers.Pointed.{stop-of}
 use Rattle.simd_json_parts.proofs.Pointers.Pointed as pointed
 use Rattle.simd_json_ondemand.specs.Docs.{doc, index_of, places, text}
 use Rattle.simd_json_ondemand.specs.Iterated.{all_some}

@@ -1,7 +1,6 @@
 -- Where a JSON Pointer leads, over any bytes and in a document.
-use Rattle.std.proofs.Common.{◌≡◌, ◌≢◌, refl, sym, ◌∙◌, ap, ℕ, zero, suc, ◌+◌, ◌<◌, ◌≤◌, List, [], ◌∷◌, length, drop, get_or}
-use Rattle.std.proofs.Common.{Bool, true, false, cond, arith}
-use Rattle.std.specs.Prelude.{Option, Some, None, Result, Ok, Err, IfErr, is_some, option_map, option_and_then}
+use Rattle.std.proofs.Common.{◌≡◌, ◌≢◌, refl, sym, ◌∙◌, ap, ℕ, zero, suc, ◌+◌, ◌<◌, ◌≤◌, List, [], ◌∷◌, length, drop, get_or, Bool, true}
+use Rattle.std.proofs.Common.{false, cond, arith, Option, Some, None, Result, Ok, Err, IfErr, is_some, option_map, option_and_then}
 use Rattle.std.specs.List.{slice_range}
 use Rattle.std.specs.Result.{result_ok}
 use Rattle.std.proofs.lemmas.Bool.{cond-true, cond-false, ne_eqb}
@@ -13,7 +12,6 @@ use Rattle.simd_json_parts.specs.Pointed.{array_index, member_at, named, unescap
 use Rattle.simd_json_parts.specs.Views as views
 use Rattle.simd_json_parts.specs.Views.{as_str, is_array, is_object, ok_map}
 use Rattle.simd_json_parts.specs.declared.pointer.PointerExpected.TheVariants as lacking
-use Rattle.simd_json_parts.proofs.Pointers.Keys.{plain-head}
 use Rattle.simd_json_parts.proofs.Pointers.Pointed.{at-slash, begins-at, ok-or}
 use Rattle.simd_json_ondemand.specs.Docs.{text, places, index_of, form, doc}
 use Rattle.simd_json_ondemand.specs.Iterated.{all_some}
@@ -32,7 +30,7 @@ use Rattle.simd_json_ondemand.specs.declared.array.Position.TheVariants.{First}
 use Rattle.simd_json_ondemand.specs.declared.unexpected.Expected.TheVariants.{Container}
 use Rattle.simd_json_ondemand.specs.declared.unexpected.Unexpected.{Unexpected}
 use Rattle.simd_json_ondemand.specs.declared.value.Value.{Value}
-use Rattle.simd_json_ondemand.specs.declared.walk.Stop.{Stop}
+use Rattle.simd_json_ondemand.specs.declared.walk.StoppedAt.{StoppedAt}
 use Rattle.simd_json_ondemand.proofs.Keys.{some-of}
 use Rattle.simd_json_ondemand.proofs.Pointers.{element-named, element-nowhere, malformed-named}
 use Rattle.simd_json_ondemand.proofs.WalkViews.{opens-array, opens-object, array-whole, object-whole}
@@ -98,13 +96,6 @@ module _ (t : List ℕ) (all left : Sites) (before : IsAhead t all left) where
 
     pub to-later : b ≡ false → IsAhead t all rest
     to-later other key n = key-later key all left (before key n) m rest step b (test key n) other
-
--- a token without an escape is the key as it stands
-pub unescaped-plain : (t : List ℕ) → IsPlain t → unescaped t ≡ Some t
-unescaped-plain [] plain = refl
-unescaped-plain (c ∷ t) plain =
-    plain-head c t (plain 0 (omega arith))
-    ∙ ap (option_map (λ k. c ∷ k)) (unescaped-plain t (λ k less. plain (suc k) (omega arith)))
 
 pub no-member : (u : Option (List ℕ)) (w : Sites) → is_some u ≡ false → Ok None ≡ member_reached u w
 no-member None w malformed = refl
@@ -237,24 +228,24 @@ module _ (t : List ℕ) (v : Value) (d : Document) (h : doc v ≡ Some d) where
       go _ same is o names = cc
 
   -- what a step finds is what the token names, and where it names nothing in a container no walk stopped
-  pub record IsStep (r : Result (Option Value) Stop) : Type 0 where
+  pub record IsStep (r : Result (Option Value) StoppedAt) : Type 0 where
     pub finds : option_map doc (found r) ≡ some_of (result_ok (named t d))
     pub container : IfErr r (λ s. s.expected ≡ Container)
 
-  of-ok : (r : Result (Option Value) Stop)
+  of-ok : (r : Result (Option Value) StoppedAt)
       → ok_map (option_map doc_at) (told (option_map site) r) ≡ Ok (some_of (result_ok (named t d))) → IsStep r
   of-ok (Ok None) is = record { finds = (let e : None ≡ some_of (result_ok (named t d)) = cc in e); container = tt }
   of-ok (Ok (Some w)) is = record { finds = (let e : Some (doc w) ≡ some_of (result_ok (named t d)) = cc in e); container = tt }
   of-ok (Err e) is = cc
 
-  of-err : (r : Result (Option Value) Stop) → told (option_map site) r ≡ Err (unexpected_here Container v) → result_ok (named t d) ≡ None
-      → IsStep r
+  of-err : (r : Result (Option Value) StoppedAt) → told (option_map site) r ≡ Err (unexpected_here Container v)
+      → result_ok (named t d) ≡ None → IsStep r
   of-err (Ok o) is none = cc
   of-err (Err e) is none =
       let same : error_at e ≡ unexpected_here Container v = cc in
       record { finds = ap some_of (sym none); container = ap (λ x. x.expected) same }
 
-  pub is-step : (r : Result (Option Value) Stop) → told (option_map site) r ≡ named_at t (site v) → IsStep r
+  pub is-step : (r : Result (Option Value) StoppedAt) → told (option_map site) r ≡ named_at t (site v) → IsStep r
   is-step r is = go d refl
     where
       other : is_array d ≡ false → is_object d ≡ false → result_ok (named t d) ≡ None → IsStep r
@@ -268,7 +259,7 @@ module _ (t : List ℕ) (v : Value) (d : Document) (h : doc v ≡ Some d) where
 -- ---- a token further
 
 -- where a token leads nowhere, so does the pointer
-pub leads-nowhere : (r : Result (Option Value) Stop) (further : Site → Reached) → None ≡ found r
+pub leads-nowhere : (r : Result (Option Value) StoppedAt) (further : Site → Reached) → None ≡ found r
     → found (reach_further (told (option_map site) r) further) ≡ None
 leads-nowhere (Ok (Some w)) further h = cc
 leads-nowhere (Ok None) further h = refl

@@ -1,21 +1,16 @@
 -- Counting brackets ends where the descent does: from the first token of a value to the first after it, and from
 -- the first token inside a container to the first after its closing bracket.
-use Rattle.std.proofs.Common.{◌≡◌, refl, sym, ◌∙◌, ap, subst, ℕ, zero, suc, ◌+◌, ◌-◌, ◌<◌, ◌≤◌, get_or}
-use Rattle.std.proofs.Common.{Bool, true, false, ◌||◌, ◌&&◌, ◌==◌, nat_le, cond}
-use Rattle.std.proofs.Common.{List, [], ◌∷◌, length, drop, arith}
-use Rattle.std.specs.Prelude.{Result, Ok, Err, IfOk}
+use Rattle.std.proofs.Common.{◌≡◌, refl, sym, ◌∙◌, ap, subst, ℕ, zero, suc, ◌+◌, ◌-◌, ◌<◌, ◌≤◌, get_or, Bool, true, false, ◌||◌, ◌&&◌, ◌==◌}
+use Rattle.std.proofs.Common.{nat_le, cond, List, [], ◌∷◌, length, drop, arith, Result, Ok, Err, IfOk, length-drop, get_or-drop, drop-drop}
 use Rattle.std.proofs.lemmas.Bool.{cond_both, eqb-true, false≢true}
-use Rattle.std.proofs.lemmas.List.{length-drop, get_or-drop}
-use Rattle.std.proofs.Math.Seq.{drop-drop}
 use Rattle.simd_json_parts.specs.Bytes.{byte_at, is_closing, is_opening}
 use Rattle.simd_json_parts.specs.Document.{Document, array, object, Elements, Members}
-use Rattle.simd_json_parts.specs.Tokens.{Token, Form, begin_array, end_array, begin_object, end_object, name_separator}
-use Rattle.simd_json_parts.specs.Tokens.{value_separator, string_token, scalar, form_at}
+use Rattle.simd_json_parts.specs.Tokens.{Token, Form, begin_array, end_array, begin_object, end_object, name_separator, value_separator}
+use Rattle.simd_json_parts.specs.Tokens.{string_token, scalar, form_at}
 use Rattle.simd_json_parts.specs.TokensAlong.{goes_on, tokens_along}
-use Rattle.simd_json_parts.specs.Descent.{◌>>=◌, Reads, after_element, element_end, elements_from, elements_by, first_element}
-use Rattle.simd_json_parts.specs.Descent.{array_from, name_of, name_from, after_name, name_end, after_member, member_end}
-use Rattle.simd_json_parts.specs.Descent.{members_from, members_by, first_member, object_from, value_of}
-use Rattle.simd_json_parts.specs.Descent.{value_with, too_deep, value_from}
+use Rattle.simd_json_parts.specs.Descent.{◌>>=◌, Reads, after_element, element_end, elements_from, elements_by, first_element, array_from}
+use Rattle.simd_json_parts.specs.Descent.{name_of, name_from, after_name, name_end, after_member, member_end, members_from, members_by}
+use Rattle.simd_json_parts.specs.Descent.{first_member, object_from, value_of, value_with, too_deep, value_from}
 use Rattle.simd_json_parts.specs.declared.error.Error.{Error}
 use Rattle.simd_json_parts.specs.declared.error.ErrorType.{ErrorType}
 use Rattle.simd_json_parts.specs.declared.error.ErrorType.TheVariants.{ExpectedObjectKey, ExpectedObjectContent}

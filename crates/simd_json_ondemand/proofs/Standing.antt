@@ -1,8 +1,7 @@
 -- Which scalar or string stands at an index, by cases on the first byte.
-use Rattle.std.proofs.Common.{◌≡◌, refl, sym, ◌∙◌, ap, ℕ, ◌+◌, List, length, take, drop, Bool, true, false, ◌||◌, ◌&&◌, ◌==◌}
-use Rattle.std.proofs.Common.{nat_le, inl, inr, arith}
-use Rattle.std.specs.Prelude.{Option, Some, None, Result, Ok, Err, IfOk, IfSome, nat_lt, codes, option_map, option_and_then}
-use Rattle.std.specs.Prelude.{is_some, IsUtf8, ◌≤◌}
+use Rattle.std.proofs.Common.{◌≡◌, refl, sym, ◌∙◌, ap, ℕ, ◌+◌, List, length, take, drop, Bool, true, false, ◌||◌, ◌&&◌, ◌==◌, nat_le, inl}
+use Rattle.std.proofs.Common.{inr, arith, take-append-drop, Option, Some, None, Result, Ok, Err, IfOk, IfSome, nat_lt, codes, option_map}
+use Rattle.std.proofs.Common.{option_and_then, is_some, IsUtf8, ◌≤◌, get_or-drop, length-drop}
 use Rattle.std.proofs.lemmas.Bool.{cases_Bool, cond_both, cond-true, eqb-true, false≢true}
 use Rattle.simd_json_parts.specs.AtomAt.{atom_at, atom_or}
 use Rattle.simd_json_parts.specs.Bytes.{byte_at, is_terminator}
@@ -23,8 +22,6 @@ use Rattle.simd_json_stages.proofs.Machine.ScalarPut.{decimal-here}
 use Rattle.simd_json_scalars.proofs.Numbers.Literals.{number_at-literal, integer-number}
 use Rattle.simd_json_scalars.specs.NumeralRead.{IsIntegerLiteral}
 use Rattle.simd_json_parts.proofs.Patterns.Sets.{Matches-matches}
-use Rattle.std.proofs.lemmas.List.{get_or-drop, length-drop}
-use Rattle.std.proofs.Common.{take-append-drop}
 use Rattle.simd_json_check.specs.Scalars.{scalar_of, begins_number}
 use Rattle.simd_json_check.proofs.Words.{spells}
 use Rattle.simd_json_ondemand.specs.Standing.{kind_of, opens_array, opens_object}

@@ -1,13 +1,11 @@
 -- The turns of a walk: each takes tokens, so the bound on them is never met.
-use Rattle.std.proofs.Common.{◌≡◌, refl, sym, ◌∙◌, ap, subst, ℕ, zero, suc, ◌+◌, ◌-◌, ◌<◌, ◌≤◌, Bool, true, false, cond, ◌==◌}
-use Rattle.std.proofs.Common.{List, [], ◌∷◌, length, drop, arith}
-use Rattle.std.specs.Prelude.{Option, Some, None, Result, Ok, Err, MatchOption}
-use Rattle.std.proofs.lemmas.List.{length-drop, drop-drop}
+use Rattle.std.proofs.Common.{◌≡◌, refl, sym, ◌∙◌, ap, subst, ℕ, zero, suc, ◌+◌, ◌-◌, ◌<◌, ◌≤◌, Bool, true, false, cond, ◌==◌, List, []}
+use Rattle.std.proofs.Common.{◌∷◌, length, drop, arith, Option, Some, None, Result, Ok, Err, MatchOption, length-drop, drop-drop}
 use Rattle.simd_json_parts.specs.Bytes.{quote, comma, colon, right_bracket, right_brace, byte_at}
 use Rattle.simd_json_ondemand.specs.Closing.{span}
 use Rattle.simd_json_ondemand.specs.Docs.{text, places}
 use Rattle.simd_json_ondemand.specs.Viewed.{read_along}
-use Rattle.simd_json_ondemand.specs.Walks.{Walk, stopped, ended, came, and_ok, and_some, begins_value, value_here, behind_token}
+use Rattle.simd_json_ondemand.specs.Walks.{Walk, stopped, ended, came, and_ok, and_some, may_begin_value, value_here, behind_token}
 use Rattle.simd_json_parts.specs.Views.{ok_map}
 use Rattle.simd_json_ondemand.specs.Walks.{behind_item, first_item, item_ahead, element_ahead, member_here, member_ahead, walk_by}
 use Rattle.simd_json_ondemand.specs.Walks.{elements_seen, members_seen, elements_walk, members_walk, pair_along}
@@ -69,7 +67,7 @@ module _ (b : List ℕ) where
   value-is : (is js : List ℕ) → value_here b is ≡ Ok js → (is ≡ js) × (0 < length js)
   value-is [] js h = cc
   value-is (i ∷ is) js h =
-      let c = chosen (begins_value (byte_at b i)) (i ∷ is) js _ h in
+      let c = chosen (may_begin_value (byte_at b i)) (i ∷ is) js _ h in
       (c.1, subst (λ ks. 0 < length ks) c.1 (omega arith))
 
   token-is : (c : ℕ) (wanted : Expected) (is js : List ℕ) → behind_token b c wanted is ≡ Ok js → length is ≡ suc (length js)

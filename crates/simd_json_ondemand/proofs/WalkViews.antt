@@ -8,7 +8,7 @@ use Rattle.std.proofs.lemmas.Option.{slice_get-map}
 use Rattle.simd_json_parts.specs.Bytes.{byte_at}
 use Rattle.simd_json_parts.specs.Document.{Document, elements, array, members, object, string}
 use Rattle.simd_json_parts.specs.Tokens.{Form, string_token, form_at}
-use Rattle.simd_json_parts.specs.Views.{as_array, as_object, get, get_idx, is_array, is_object, try_at, try_get, try_get_idx}
+use Rattle.simd_json_parts.specs.Views.{as_array, as_object, get, get_idx, is_array, is_object, try_at, try_get, try_get_idx, ok_map}
 use Rattle.simd_json_parts.specs.declared.node.ValueType.TheVariants as kinds
 use Rattle.simd_json_stages.proofs.Machine.Steps.{is_string}
 use Rattle.simd_json_stages.proofs.Tokens.TokenForms as forms
@@ -20,16 +20,14 @@ use Rattle.simd_json_ondemand.specs.Viewed.{read_along}
 use Rattle.simd_json_ondemand.specs.Walked.{array_seen, object_seen, array_walk, object_walk, unexpected_here, member_with, string_wanted}
 use Rattle.simd_json_ondemand.specs.Stopped.{error_at, told}
 use Rattle.simd_json_ondemand.specs.Unexpected.{unexpected}
-use Rattle.simd_json_ondemand.specs.Walks.{stopped, ended, came, whole, first, walk_past, walk_from}
-use Rattle.simd_json_parts.specs.Views.{ok_map}
-use Rattle.simd_json_ondemand.specs.Walks.{elements_walk, members_walk}
-use Rattle.simd_json_ondemand.specs.Walks.{Walk, elements_seen, found, items, members_seen}
+use Rattle.simd_json_ondemand.specs.Walks.{stopped, ended, came, whole, first, walk_past, walk_from, elements_walk, members_walk, Walk}
+use Rattle.simd_json_ondemand.specs.Walks.{elements_seen, found, items, members_seen}
 use Rattle.simd_json_ondemand.specs.declared.array.Position.TheVariants.{First}
 use Rattle.simd_json_ondemand.specs.declared.unexpected.Expected.TheVariants.{Kind}
 use Rattle.simd_json_ondemand.specs.declared.unexpected.Expected.TheVariants as expected
 use Rattle.simd_json_ondemand.specs.declared.unexpected.Unexpected.{Unexpected}
 use Rattle.simd_json_ondemand.specs.declared.value.Value.{Value}
-use Rattle.simd_json_ondemand.specs.declared.walk.Stop.{Stop}
+use Rattle.simd_json_ondemand.specs.declared.walk.StoppedAt.{StoppedAt}
 use Rattle.simd_json_ondemand.proofs.Agreement.{begins-at, array-is, object-is}
 use Rattle.simd_json_ondemand.proofs.ArrayViews as arrays
 use Rattle.simd_json_ondemand.proofs.ObjectViews as objects
@@ -37,8 +35,8 @@ use Rattle.simd_json_ondemand.proofs.Sequence.Arrays.{InArray}
 use Rattle.simd_json_ondemand.proofs.Sequence.Objects.{InObject}
 use Rattle.simd_json_ondemand.proofs.Standing.{opens_array_byte, opens_object_byte}
 use Rattle.simd_json_ondemand.proofs.Turns.{elements-seen-stop, members-seen-stop}
-use Rattle.simd_json_ondemand.proofs.Walks.{Pairs, inside-walk, inside-members, from-stopped}
-use Rattle.simd_json_ondemand.proofs.Walks.{items-whole, whole-with, past-whole, past-stopped}
+use Rattle.simd_json_ondemand.proofs.Walks.{Pairs, inside-walk, inside-members, from-stopped, items-whole, whole-with, past-whole}
+use Rattle.simd_json_ondemand.proofs.Walks.{past-stopped}
 
 -- ---- the walk inside
 
@@ -123,7 +121,7 @@ idx-got i v (array ds) h =
     ∙ slice_get-map (λ e. Some e) (elements ds) i
 idx-got i v d h = ap (λ w. found (first (walk_past i w))) (array-none v d h refl) ∙ ap (λ w. found (first w)) (past-stopped i _)
 
-pub found-with : (key : List ℕ) (r : Result (Option Value) Stop) (w more : Pairs) (P : Type 0)
+pub found-with : (key : List ℕ) (r : Result (Option Value) StoppedAt) (w more : Pairs) (P : Type 0)
     → MatchResult r (λ found. MatchOption found ((walk_from key w ≡ ended) × P)
     (λ v. walk_from key w ≡ came (Some (string key), doc v) more)) (λ s. (walk_from key w ≡ stopped (error_at s)) × P)
     → told (option_map doc) r ≡ member_with key w

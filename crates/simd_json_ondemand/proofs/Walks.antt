@@ -12,8 +12,8 @@ use Rattle.simd_json_parts.specs.Document.{Document, Members, no_members, member
 use Rattle.simd_json_parts.specs.Faults.{fault_at}
 use Rattle.simd_json_parts.specs.NumberAt.{number_at}
 use Rattle.simd_json_parts.specs.StringAt.{string_at}
-use Rattle.simd_json_parts.specs.Tokens.{Form, begin_array, end_array, begin_object, end_object, name_separator, value_separator}
-use Rattle.simd_json_parts.specs.Tokens.{Token, string_token, scalar, stray, form_at}
+use Rattle.simd_json_parts.specs.Tokens.{Form, begin_array, end_array, begin_object, end_object, name_separator, value_separator, Token}
+use Rattle.simd_json_parts.specs.Tokens.{string_token, scalar, stray, form_at}
 use Rattle.simd_json_parts.specs.TokensAlong.{goes_on, tokens_along}
 use Rattle.simd_json_parts.specs.Views.{as_str, first_with, ok_map}
 use Rattle.simd_json_parts.specs.declared.error.Error.{Error}
@@ -24,15 +24,14 @@ use Rattle.simd_json_ondemand.specs.Closing.{span}
 use Rattle.simd_json_ondemand.specs.Iterated.{all_some}
 use Rattle.simd_json_ondemand.specs.IteratedMembers.{all_members}
 use Rattle.simd_json_ondemand.specs.Keys.{is_key}
-use Rattle.simd_json_ondemand.specs.Remaining.{value_at_first, listed, paired, elements_inside, elements_behind}
-use Rattle.simd_json_ondemand.specs.Remaining.{members_inside, members_behind}
+use Rattle.simd_json_ondemand.specs.Remaining.{value_at_first, listed, paired, elements_inside, elements_behind, members_inside}
+use Rattle.simd_json_ondemand.specs.Remaining.{members_behind}
 use Rattle.simd_json_ondemand.specs.Unexpected.{unexpected}
 use Rattle.simd_json_ondemand.specs.Viewed.{first_read, read_along}
 use Rattle.simd_json_ondemand.specs.Walked as walks
-use Rattle.simd_json_ondemand.specs.Walks.{Walk, stopped, ended, came, whole, first, walk_past, walk_from, and_ok, and_some}
-use Rattle.simd_json_ondemand.specs.Walks.{or_walk, walk_round}
-use Rattle.simd_json_ondemand.specs.Walks.{begins_value, value_here, behind_token, behind_item, member_here}
-use Rattle.simd_json_ondemand.specs.Walks.{elements_walk, items, members_walk, pair_along, walk_by}
+use Rattle.simd_json_ondemand.specs.Walks.{Walk, stopped, ended, came, whole, first, walk_past, walk_from, and_ok, and_some, or_walk}
+use Rattle.simd_json_ondemand.specs.Walks.{walk_round, may_begin_value, value_here, behind_token, behind_item, member_here, elements_walk}
+use Rattle.simd_json_ondemand.specs.Walks.{items, members_walk, pair_along, walk_by}
 use Rattle.simd_json_ondemand.specs.declared.array.Position.TheVariants.{First, AtValue}
 use Rattle.simd_json_ondemand.specs.declared.unexpected.Expected.TheVariants as expected
 use Rattle.simd_json_ondemand.specs.declared.unexpected.Unexpected.{Unexpected}
@@ -66,7 +65,7 @@ begins-with s r q false false false false false false false false false false fa
 begins-with s r q false false false false false false false false false false false false d h = absurd h
 
 module _ (b : List ℕ) where
-  begins-byte : (i : ℕ) (d : Document) → Begins (form_at b i) d → begins_value (byte_at b i) ≡ true
+  begins-byte : (i : ℕ) (d : Document) → Begins (form_at b i) d → may_begin_value (byte_at b i) ≡ true
   unfolding form_at
   begins-byte i d h =
       let c : ℕ = byte_at b i in
@@ -299,22 +298,6 @@ from-here key k d w h = from-step key (k, d) w ∙ cond-true _ _ _ h ∙ ap (λ 
 pub from-later : (key : List ℕ) (k d : Option Document) (w : Pairs) → is_key key (option_and_then as_str k) ≡ false
     → walk_from key (came (k, d) w) ≡ walk_from key w
 from-later key k d w h = from-step key (k, d) w ∙ cond-false _ _ _ h
-
-pub round-left : (w key : List ℕ) (left all rest : Pairs) (d : Option Document) → w ≡ key
-    → walk_from w left ≡ came (Some (string w), d) rest → walk_round key left all ≡ came (Some (string key), d) rest
-round-left w key left all rest d same is =
-    ap (λ k. or_walk (walk_from k left) (walk_from key all)) (sym same) ∙ ap (λ xs. or_walk xs (walk_from key all)) is
-    ∙ ap (λ k. came (Some (string k), d) rest) same
-
-pub round-stops : (w key : List ℕ) (left all : Pairs) (e : Unexpected) → w ≡ key → walk_from w left ≡ stopped e
-    → walk_round key left all ≡ stopped e
-round-stops w key left all e same is =
-    ap (λ k. or_walk (walk_from k left) (walk_from key all)) (sym same) ∙ ap (λ xs. or_walk xs (walk_from key all)) is
-
-pub round-all : (w key : List ℕ) (left all : Pairs) → w ≡ key → walk_from w left ≡ ended → walk_round key left all ≡ walk_from w all
-round-all w key left all same is =
-    ap (λ k. or_walk (walk_from k left) (walk_from key all)) (sym same) ∙ ap (λ xs. or_walk xs (walk_from key all)) is
-    ∙ ap (λ k. walk_from k all) (sym same)
 
 pub whole-with : (key : List ℕ) (ms : Members)
     → walks.member_with key (whole (all_members (members ms))) ≡ Ok (option_map (λ e. Some e) (first_with key ms))

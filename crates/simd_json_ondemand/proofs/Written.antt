@@ -1,7 +1,6 @@
 -- Of a value that is read there are bytes: a container has its closing bracket.
-use Rattle.std.proofs.Common.{◌≡◌, refl, sym, ◌∙◌, ap, subst, ℕ, ◌+◌, ◌-◌, ◌<◌, ◌≤◌, zero, suc, Bool, true, false, ◌||◌}
-use Rattle.std.proofs.Common.{List, ◌∷◌, length, drop, get_or, arith}
-use Rattle.std.specs.Prelude.{Option, Some, None, option_map, Result, Ok, Err, is_some, cond, slice_range}
+use Rattle.std.proofs.Common.{◌≡◌, refl, sym, ◌∙◌, ap, subst, ℕ, ◌+◌, ◌-◌, ◌<◌, ◌≤◌, zero, suc, Bool, true, false, ◌||◌, List, ◌∷◌, length}
+use Rattle.std.proofs.Common.{drop, get_or, arith, Option, Some, None, option_map, Result, Ok, Err, is_some, cond, slice_range}
 use Rattle.std.specs.List.Sorted.{IsStrictlyIncreasing}
 use Rattle.std.proofs.lemmas.Bool.{cond_both}
 use Rattle.std.proofs.lemmas.List.{get_or-drop, drop_more}

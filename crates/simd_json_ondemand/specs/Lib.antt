@@ -10,7 +10,7 @@ pub mod Remaining
 pub mod Within
 -- Look-up by key.
 pub mod Keys
-pub mod Wanted
+pub mod WantedKey
 -- The lines of a stream.
 pub mod Lines
 -- Walks along arrays and objects, which tell their end from a place where they stop.

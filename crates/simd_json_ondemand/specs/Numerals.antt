@@ -14,8 +14,8 @@ use Rattle.simd_json_scalars.specs.NumeralRead.{IsNumeralAt}
 use Rattle.simd_json_scalars.specs.declared.numberparse.Numeral.{Numeral}
 use Rattle.simd_json_scalars.specs.declared.numberparse.Numeral.TheVariants.{Decimal}
 
-abbrev pub IsNumeral : List ℕ → ℕ → Numeral → Type 0
-IsNumeral b i n = (form_at b i ≡ scalar (number_at b i)) × IsNumeralAt b i n
+abbrev pub IsNumeralRead : List ℕ → ℕ → Numeral → Type 0
+IsNumeralRead b i n = (form_at b i ≡ scalar (number_at b i)) × IsNumeralAt b i n
 
 abbrev pub IsNoNumber : Option Document → Type 0
 IsNoNumber o = (option_and_then as_integer o ≡ None) × (option_and_then as_decimal o ≡ None)

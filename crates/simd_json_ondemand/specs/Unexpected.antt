@@ -6,8 +6,8 @@ use Rattle.simd_json_parts.specs.declared.node.ValueType.{ValueType}
 use Rattle.simd_json_ondemand.specs.Standing.{kind_of}
 use Rattle.simd_json_ondemand.specs.declared.unexpected.Expected.{Expected}
 use Rattle.simd_json_ondemand.specs.declared.unexpected.Expected.TheVariants as expected
-use Rattle.simd_json_ondemand.specs.declared.unexpected.Found.{Found}
-use Rattle.simd_json_ondemand.specs.declared.unexpected.Found.TheVariants as found
+use Rattle.simd_json_ondemand.specs.declared.unexpected.Got.{Got}
+use Rattle.simd_json_ondemand.specs.declared.unexpected.Got.TheVariants as found
 use Rattle.simd_json_ondemand.specs.declared.unexpected.Unexpected.{Unexpected}
 
 -- the byte index of the first of some tokens, or of the end of the input
@@ -15,12 +15,12 @@ abbrev pub place : List ℕ → List ℕ → ℕ
 place b [] = length b
 place b (i ∷ is) = i
 
-abbrev pub found_kind : Option ValueType → Found
+abbrev pub found_kind : Option ValueType → Got
 found_kind (Some kind) = found.Value kind
 found_kind None = found.Other
 
 -- what is there
-abbrev pub found_at : List ℕ → List ℕ → Found
+abbrev pub found_at : List ℕ → List ℕ → Got
 found_at b [] = found.End
 found_at b (i ∷ is) = found_kind (kind_of (form_at b i))
 
@@ -40,7 +40,7 @@ expected_text expected.Colon = codes "a colon"
 expected_text expected.CommaOrBracket = codes "a comma or ]"
 expected_text expected.CommaOrBrace = codes "a comma or }"
 
-abbrev pub found_in_words : Found → List ℕ
+abbrev pub found_in_words : Got → List ℕ
 found_in_words (found.Value kind) = type_words kind
 found_in_words found.Other = codes "no value"
 found_in_words found.End = codes "the end of the input"

@@ -63,8 +63,8 @@ walk_past (suc n) w = w
 -- ---- tokens, by the structural indexes from one of them on
 
 -- a byte that a value begins with (RFC 8259, section 3)
-abbrev pub begins_value : ℕ → Bool
-begins_value c =
+abbrev pub may_begin_value : ℕ → Bool
+may_begin_value c =
     (c == left_bracket) || (c == left_brace) || (c == quote) || (c == lower_t) || (c == lower_f) || (c == lower_n) || (c == minus_sign)
     || is_ascii_digit c
 
@@ -72,7 +72,7 @@ module _ (b : List ℕ) where
   -- a value begins here
   abbrev pub value_here : List ℕ → Result (List ℕ) Unexpected
   value_here [] = Err (unexpected b expected.Value [])
-  value_here (i ∷ is) = if begins_value (byte_at b i) then Ok (i ∷ is) else Err (unexpected b expected.Value (i ∷ is))
+  value_here (i ∷ is) = if may_begin_value (byte_at b i) then Ok (i ∷ is) else Err (unexpected b expected.Value (i ∷ is))
 
   -- behind a token with this first byte
   abbrev pub behind_token : ℕ → Expected → List ℕ → Result (List ℕ) Unexpected

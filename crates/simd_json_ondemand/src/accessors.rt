@@ -16,7 +16,7 @@ impl<'d> Value<'d> {
     ghost use Rattle.fast_float.specs.Parse.{parse_float};
     ghost use Rattle.simd_json_ondemand.specs.Docs.{text, index_of, kind};
     ghost use Rattle.simd_json_ondemand.specs.Docs.{standing, as_standing, literal, number};
-    ghost use Rattle.simd_json_ondemand.specs.Numerals.{IsNumeral, IsNoNumber, IsLiteralLen};
+    ghost use Rattle.simd_json_ondemand.specs.Numerals.{IsNumeralRead, IsNoNumber, IsLiteralLen};
     ghost use Rattle.simd_json_ondemand.specs.Standing.{IsInteger};
     ghost use Rattle.simd_json_parts.specs.Accessors as accessors;
     ghost use Rattle.simd_json_parts.specs.Views.{as_integer, value_type};
@@ -53,7 +53,7 @@ impl<'d> Value<'d> {
     #[inline(always)]
     fn numeral(self) -> Option<Numeral>
         ensures { MatchOption result (IsNoNumber (standing self.entry))
-            (IsNumeral (text self.entry.document) (index_of self.entry)) }
+            (IsNumeralRead (text self.entry.document) (index_of self.entry)) }
     {
         if begins_number(self.first()) {
             Some(numeral(self.bytes()))

@@ -1,10 +1,14 @@
 //! An array of a document: a cursor over its values.
-ghost use Rattle.std.specs.Prelude.{◌<◌, length};
+ghost use Rattle.std.specs.Prelude.{◌<◌, length, ◌≡◌, [], Some, IfSome, IfOk, MatchOption};
+ghost use Rattle.std.specs.Prelude.{MatchResult, option_map, true};
+ghost use Rattle.std.specs.Iterator.{YieldsFirstBy, item_count};
+ghost use Rattle.std.specs.Result.{result_ok};
+ghost use Rattle.simd_json_parts.specs.Document as parts;
 
 use crate::end::End;
 use crate::unexpected::Expected;
 use crate::value::{Document, Value};
-use crate::walk::{Stop, found};
+use crate::walk::{StoppedAt, found};
 use simd_json_parts::node::ValueType;
 use std::iter::FusedIterator;
 
@@ -36,7 +40,6 @@ pub struct Array<'d> {
 impl<'d> Iterator for Array<'d> {
     type Item = Value<'d>;
 
-    ghost use Rattle.std.specs.Iterator.{YieldsFirstBy, item_count};
     ghost use Rattle.simd_json_ondemand.specs.Docs.{doc};
     ghost use Rattle.simd_json_ondemand.specs.Iterated.{elements_to_come};
 
@@ -53,23 +56,19 @@ impl<'d> Iterator for Array<'d> {
 impl<'d> FusedIterator for Array<'d> {}
 
 impl<'d> Array<'d> {
-    ghost use Rattle.std.specs.Prelude.{◌≡◌, [], Some, IfSome, IfOk, MatchOption, MatchResult};
-    ghost use Rattle.std.specs.Prelude.{option_map};
-    ghost use Rattle.std.specs.Iterator.{YieldsFirstBy};
     ghost use Rattle.simd_json_ondemand.specs.Docs.{doc};
     ghost use Rattle.simd_json_ondemand.specs.Iterated.{elements_to_come};
     ghost use Rattle.simd_json_ondemand.specs.Sites.{element_sites, site};
     ghost use Rattle.simd_json_ondemand.specs.Stopped.{error_at, told};
     ghost use Rattle.simd_json_ondemand.specs.Walked.{elements_ahead};
-    ghost use Rattle.simd_json_ondemand.specs.Walks.{stopped, ended, came, first, items};
-    ghost use Rattle.simd_json_ondemand.specs.Walks.{walk_past};
+    ghost use Rattle.simd_json_ondemand.specs.Walks.{stopped, ended, came, first, items, walk_past};
     ghost use Rattle.simd_json_ondemand.specs.Within.{IsInArray, after, after_at, after_last};
     ghost use Rattle.simd_json_ondemand.specs.declared.value.Value.{Value};
 
     // Goes on to the next value, and returns it, or `None` at the closing bracket. Where the walk
     // stops the cursor stays where it is.
     #[inline(always)]
-    pub(crate) fn step(&mut self) -> Result<Option<Value<'d>>, Stop<'d>>
+    pub(crate) fn step(&mut self) -> Result<Option<Value<'d>>, StoppedAt<'d>>
         ensures steps { MatchResult result
             (λ next. MatchOption next ((elements_ahead self.old ≡ ended) × (self.new ≡ self.old))
             (λ value. elements_ahead self.old ≡ came (doc value) (elements_ahead self.new)))
@@ -118,7 +117,7 @@ impl<'d> Array<'d> {
     }
 
     // The value after the next `index` values.
-    fn behind(self, index: usize) -> Result<Option<Value<'d>>, Stop<'d>>
+    fn behind(self, index: usize) -> Result<Option<Value<'d>>, StoppedAt<'d>>
         ensures documents { told (option_map doc) result
             ≡ first (walk_past index (elements_ahead self.entry)) }
         ensures sites { told (option_map site) result
@@ -172,9 +171,6 @@ impl<'d> Array<'d> {
 }
 
 impl<'d> Value<'d> {
-    ghost use Rattle.std.specs.Prelude.{◌≡◌, [], true, Some, IfOk, IfSome, MatchOption};
-    ghost use Rattle.std.specs.Prelude.{MatchResult, option_map};
-    ghost use Rattle.std.specs.Result.{result_ok};
     ghost use Rattle.simd_json_ondemand.specs.Docs.{doc, form};
     ghost use Rattle.simd_json_ondemand.specs.Iterated.{elements_to_come, all_some};
     ghost use Rattle.simd_json_ondemand.specs.Sites.{array_sites, element_sites, site};
@@ -183,13 +179,12 @@ impl<'d> Value<'d> {
     ghost use Rattle.simd_json_ondemand.specs.Walked.{array_walk, elements_ahead};
     ghost use Rattle.simd_json_ondemand.specs.Walks.{first, found, items, stopped, walk_past};
     ghost use Rattle.simd_json_ondemand.specs.Walks.{whole};
-    ghost use Rattle.simd_json_parts.specs.Document as parts;
     ghost use Rattle.simd_json_parts.specs.Views.{as_array, get_idx};
     ghost use Rattle.simd_json_ondemand.specs.Within.{IsInArray};
 
     // The values of the array.
     #[inline(always)]
-    pub(crate) fn elements(self) -> Result<Array<'d>, Stop<'d>>
+    pub(crate) fn elements(self) -> Result<Array<'d>, StoppedAt<'d>>
         ensures walk { MatchResult result (λ array. array_walk self.entry ≡ elements_ahead array)
             (λ s. array_walk self.entry ≡ stopped (error_at s)) }
         ensures sites { MatchResult result (λ array. array_sites self.entry ≡ element_sites array)
@@ -235,7 +230,7 @@ impl<'d> Value<'d> {
 
     // The value at an index of the array.
     #[inline(always)]
-    pub(crate) fn element(self, index: usize) -> Result<Option<Value<'d>>, Stop<'d>>
+    pub(crate) fn element(self, index: usize) -> Result<Option<Value<'d>>, StoppedAt<'d>>
         ensures walk { told (option_map doc) result
             ≡ first (walk_past index (array_walk self.entry)) }
         ensures site { told (option_map site) result

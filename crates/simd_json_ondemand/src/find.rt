@@ -1,9 +1,9 @@
 //! Look-up by key in an object, from where a cursor is and then once round.
 use crate::array::Position;
-use crate::key::Wanted;
+use crate::key::WantedKey;
 use crate::object::Object;
 use crate::value::Value;
-use crate::walk::{Stop, found};
+use crate::walk::{StoppedAt, found};
 
 impl<'d> Object<'d> {
     ghost use Rattle.std.specs.Prelude.{◌≡◌, [], Some, IfOk, IfSome, MatchOption, MatchResult};
@@ -48,7 +48,7 @@ impl<'d> Object<'d> {
 
     // Looks for the key among the members left, and then among all.
     #[inline(always)]
-    pub(crate) fn find_round(&mut self, key: &str) -> Result<Option<Value<'d>>, Stop<'d>>
+    pub(crate) fn find_round(&mut self, key: &str) -> Result<Option<Value<'d>>, StoppedAt<'d>>
         ensures found { MatchResult result
             (λ found. MatchOption found
             ((walk_round key.now (members_ahead self.old) (members_from_first self.old) ≡ ended)
@@ -62,7 +62,7 @@ impl<'d> Object<'d> {
         ensures object { AreInSameObject self.old self.new }
         ensures inside { (v : Value) → IsInObject v self.old → IsInObject v self.new }
     {
-        let wanted = Wanted::new(key);
+        let wanted = WantedKey::new(key);
         match self.find_left(wanted) {
             Ok(None) => {}
             Ok(Some(value)) => return Ok(Some(value)),
@@ -80,7 +80,10 @@ impl<'d> Object<'d> {
 
     // Searches the members that are left, and no other.
     #[inline(always)]
-    pub(crate) fn find_left(&mut self, wanted: Wanted<'_>) -> Result<Option<Value<'d>>, Stop<'d>>
+    pub(crate) fn find_left(
+        &mut self,
+        wanted: WantedKey<'_>,
+    ) -> Result<Option<Value<'d>>, StoppedAt<'d>>
         ensures found { MatchResult result
             (λ found. MatchOption found
             ((walk_from wanted.entry.key.now (members_ahead self.old) ≡ ended)
@@ -115,7 +118,10 @@ impl<'d> Object<'d> {
     // cursor behind the member, and its value.
     #[cold]
     #[inline(never)]
-    fn find_before(self, wanted: Wanted<'_>) -> Result<Option<(Object<'d>, Value<'d>)>, Stop<'d>>
+    fn find_before(
+        self,
+        wanted: WantedKey<'_>,
+    ) -> Result<Option<(Object<'d>, Value<'d>)>, StoppedAt<'d>>
         requires { walk_from wanted.key.now (members_ahead self) ≡ ended }
         ensures found { MatchResult result
             (λ found. MatchOption found

@@ -1,10 +1,10 @@
 //! Compares strings of the input with a key, or with a reference token of a JSON Pointer, as they
 //! are written: nothing is decoded into memory.
-ghost use Rattle.std.specs.Prelude.{◌≡◌, ◌<◌, ◌≤◌, ◌+◌, ◌++◌, ℕ, List, length, get_or};
-ghost use Rattle.std.specs.Prelude.{IsTrue, MatchOption, Some, is_some, map, option_map, true};
+ghost use Rattle.std.specs.Prelude.{◌≡◌, ◌<◌, ◌≤◌, ◌+◌, ◌++◌, ℕ, List, length, get_or, IsTrue};
+ghost use Rattle.std.specs.Prelude.{MatchOption, Some, is_some, map, option_map, true};
 ghost use Rattle.std.specs.Simd.Lanes.{mask_l};
 ghost use Rattle.simd_json_ondemand.specs.Keys.{is_key};
-ghost use Rattle.simd_json_ondemand.specs.Wanted.{AgreesTo, IsWanted, key_of, read_string};
+ghost use Rattle.simd_json_ondemand.specs.WantedKey.{AgreesTo, IsWanted, key_of, read_string};
 ghost use Rattle.simd_json_parts.specs.Bytes.{byte_at, quote};
 ghost use Rattle.simd_json_parts.specs.StringAt.{closing_quote, escape_at, string_at};
 ghost use Rattle.simd_json_scalars.specs.StringContent.{is_plain, is_stop};
@@ -17,7 +17,7 @@ use std::simd::prelude::*;
 
 /// A key, and its first eight bytes as they are compared, with quotes after its end.
 #[derive(Clone, Copy)]
-pub(crate) struct Wanted<'k> {
+pub(crate) struct WantedKey<'k> {
     key: &'k [u8],
     first: [u8; 8],
     // Whether its first eight bytes have neither a quote nor a backslash. A key that has one is
@@ -26,20 +26,17 @@ pub(crate) struct Wanted<'k> {
     ghost made: { IsWanted key.now first is_plain },
 }
 
-impl<'k> Wanted<'k> {
-    ghost use Rattle.std.specs.Prelude.{◌≡◌, ◌<◌, length};
+impl<'k> WantedKey<'k> {
     ghost use Rattle.simd_json_ondemand.specs.Keys.{is_key};
-    ghost use Rattle.simd_json_ondemand.specs.Wanted.{read_string};
-    ghost use Rattle.simd_json_parts.specs.Bytes.{byte_at, quote};
-    ghost use Rattle.simd_json_parts.specs.StringAt.{closing_quote, string_at};
+    ghost use Rattle.simd_json_ondemand.specs.WantedKey.{read_string};
 
     #[inline(always)]
-    pub(crate) fn new(key: &'k str) -> Wanted<'k>
+    pub(crate) fn new(key: &'k str) -> WantedKey<'k>
         ensures { result.key.now ≡ key.now }
     {
         let key = key.as_bytes();
         let first = first_eight(key);
-        Wanted {
+        WantedKey {
             key,
             first,
             is_plain: is_plain_up_to(first, key.len()),

@@ -79,5 +79,5 @@ pub use simd_json_parts::node::ValueType;
 pub use simd_json_parts::pointer::Pointer;
 pub use simd_json_stages::Index;
 pub use stream::{InputLines, lines};
-pub use unexpected::{Expected, Found, Unexpected};
+pub use unexpected::{Expected, Got, Unexpected};
 pub use value::{Document, Value};

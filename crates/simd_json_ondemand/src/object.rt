@@ -1,12 +1,18 @@
 //! An object of a document: a cursor over its members.
-ghost use Rattle.std.specs.Prelude.{◌<◌, length};
+ghost use Rattle.std.specs.Prelude.{◌<◌, length, ◌≡◌, [], Some, IfOk, IfSome, MatchOption};
+ghost use Rattle.std.specs.Prelude.{MatchResult, true, option_and_then, option_map};
+ghost use Rattle.std.specs.Iterator.{YieldsFirstBy, item_count};
+ghost use Rattle.simd_json_parts.specs.Bytes.{byte_at, quote};
+ghost use Rattle.std.specs.Result.{result_ok};
+ghost use Rattle.simd_json_parts.specs.Views.{as_str};
+ghost use Rattle.simd_json_parts.specs.Document as parts;
 
 use crate::array::Position;
 use crate::end::End;
-use crate::key::Wanted;
+use crate::key::WantedKey;
 use crate::unexpected::Expected;
 use crate::value::{Document, Value};
-use crate::walk::{Stop, found};
+use crate::walk::{StoppedAt, found};
 use simd_json_parts::node::ValueType;
 use std::iter::FusedIterator;
 
@@ -31,7 +37,6 @@ pub struct Object<'d> {
 impl<'d> Iterator for Object<'d> {
     type Item = (Value<'d>, Value<'d>);
 
-    ghost use Rattle.std.specs.Iterator.{YieldsFirstBy, item_count};
     ghost use Rattle.simd_json_ondemand.specs.IteratedMembers.{members_left, pair_doc};
 
     ghost next_gives = { YieldsFirstBy pair_doc members_left };
@@ -47,10 +52,7 @@ impl<'d> Iterator for Object<'d> {
 impl<'d> FusedIterator for Object<'d> {}
 
 impl<'d> Object<'d> {
-    ghost use Rattle.std.specs.Prelude.{◌≡◌, [], Some, IfOk, IfSome, MatchOption, MatchResult};
-    ghost use Rattle.std.specs.Iterator.{YieldsFirstBy};
     ghost use Rattle.simd_json_ondemand.specs.Docs.{index_of, text};
-    ghost use Rattle.simd_json_parts.specs.Bytes.{byte_at, quote};
     ghost use Rattle.simd_json_ondemand.specs.IteratedMembers.{members_left, pair_doc};
     ghost use Rattle.simd_json_ondemand.specs.Sites.{member_sites, pair_site};
     ghost use Rattle.simd_json_ondemand.specs.Stopped.{error_at};
@@ -63,7 +65,7 @@ impl<'d> Object<'d> {
     // Goes on to the next member, and returns its key and its value, or `None` at the closing
     // brace. Where the walk stops the cursor stays where it is.
     #[inline(always)]
-    pub(crate) fn step(&mut self) -> Result<Option<(Value<'d>, Value<'d>)>, Stop<'d>>
+    pub(crate) fn step(&mut self) -> Result<Option<(Value<'d>, Value<'d>)>, StoppedAt<'d>>
         ensures steps { MatchResult result
             (λ next. MatchOption next ((members_ahead self.old ≡ ended) × (self.new ≡ self.old))
             (λ member. members_ahead self.old ≡ came (pair_doc member) (members_ahead self.new)))
@@ -173,11 +175,7 @@ impl<'d> Object<'d> {
 }
 
 impl<'d> Value<'d> {
-    ghost use Rattle.std.specs.Prelude.{◌≡◌, [], true, Some, IfOk, IfSome, MatchOption};
-    ghost use Rattle.std.specs.Prelude.{MatchResult, option_and_then, option_map};
-    ghost use Rattle.std.specs.Result.{result_ok};
     ghost use Rattle.simd_json_ondemand.specs.Docs.{doc, form, index_of, text};
-    ghost use Rattle.simd_json_parts.specs.Bytes.{byte_at, quote};
     ghost use Rattle.simd_json_ondemand.specs.IteratedMembers.{members_left, all_members_in};
     ghost use Rattle.simd_json_ondemand.specs.IteratedMembers.{all_members};
     ghost use Rattle.simd_json_ondemand.specs.Keys.{is_key};
@@ -189,12 +187,11 @@ impl<'d> Value<'d> {
     ghost use Rattle.simd_json_ondemand.specs.Walked.{members_from_first, object_walk};
     ghost use Rattle.simd_json_ondemand.specs.Walks.{found, items, stopped, whole};
     ghost use Rattle.simd_json_ondemand.specs.Within.{IsInObject};
-    ghost use Rattle.simd_json_parts.specs.Document as parts;
-    ghost use Rattle.simd_json_parts.specs.Views.{as_object, as_str, get};
+    ghost use Rattle.simd_json_parts.specs.Views.{as_object, get};
 
     // The members of the object.
     #[inline(always)]
-    pub(crate) fn members(self) -> Result<Object<'d>, Stop<'d>>
+    pub(crate) fn members(self) -> Result<Object<'d>, StoppedAt<'d>>
         ensures walk { MatchResult result (λ object. object_walk self.entry ≡ members_ahead object)
             (λ s. object_walk self.entry ≡ stopped (error_at s)) }
         ensures sites { MatchResult result (λ object. object_sites self.entry ≡ member_sites object)
@@ -246,7 +243,7 @@ impl<'d> Value<'d> {
 
     // The value of the first member with the key.
     #[inline(always)]
-    pub(crate) fn member(self, key: &str) -> Result<Option<Value<'d>>, Stop<'d>>
+    pub(crate) fn member(self, key: &str) -> Result<Option<Value<'d>>, StoppedAt<'d>>
         ensures walk { told (option_map doc) result
             ≡ member_with key.now (object_walk self.entry) }
         ensures site { told (option_map site) result
@@ -254,7 +251,7 @@ impl<'d> Value<'d> {
         ensures any { IfOk result (λ value. opens_object (form self.entry) ≡ true) }
     {
         match self.members() {
-            Ok(mut members) => members.find_left(Wanted::new(key)),
+            Ok(mut members) => members.find_left(WantedKey::new(key)),
             Err(stop) => Err(stop),
         }
     }
@@ -276,7 +273,7 @@ impl<'d> Value<'d> {
 
     // Whether the string here is the key.
     #[inline(always)]
-    pub(crate) fn is_key(self, wanted: Wanted<'_>) -> bool
+    pub(crate) fn is_key(self, wanted: WantedKey<'_>) -> bool
         requires { byte_at (text self.document) (index_of self) ≡ quote }
         ensures { result ≡ is_key wanted.entry.key.now (option_and_then as_str (doc self.entry)) }
     {

@@ -1,34 +1,32 @@
 //! JSON Pointer (RFC 6901): the value at a place within another.
-ghost use Rattle.std.specs.Prelude.{◌≡◌, is_some, option_map, true};
+ghost use Rattle.std.specs.Prelude.{◌≡◌, is_some, option_map, true, IfErr, List, Some, ℕ};
+ghost use Rattle.std.specs.Prelude.{option_and_then};
 ghost use Rattle.simd_json_ondemand.specs.Reached.{member_reached, named_at};
 ghost use Rattle.simd_json_ondemand.specs.Sites.{member_sites, site};
 ghost use Rattle.simd_json_ondemand.specs.Stopped.{told};
-ghost use Rattle.simd_json_parts.specs.Pointed.{unescaped};
+ghost use Rattle.simd_json_parts.specs.Pointed.{unescaped, pointed};
+ghost use Rattle.std.specs.Result.{result_ok};
+ghost use Rattle.simd_json_parts.specs.Bytes.{byte_at, quote};
+ghost use Rattle.simd_json_parts.specs.Views.{as_str, ok_map};
+ghost use Rattle.simd_json_parts.specs.Document as parts;
 
 use crate::key::is_written;
 use crate::object::Object;
 use crate::unexpected::{Expected, Unexpected};
 use crate::value::Value;
-use crate::walk::{Stop, found, told};
+use crate::walk::{StoppedAt, found, told};
 use simd_json_parts::pointer::{Parent, Pointer, follow, is_plain, is_well_formed, read_index};
 
 impl<'d> Value<'d> {
-    ghost use Rattle.std.specs.Prelude.{◌≡◌, IfErr, List, Some, ℕ};
-    ghost use Rattle.std.specs.Prelude.{option_and_then, option_map};
-    ghost use Rattle.std.specs.Result.{result_ok};
     ghost use Rattle.simd_json_ondemand.specs.Docs as docs;
     ghost use Rattle.simd_json_ondemand.specs.Docs.{doc};
-    ghost use Rattle.simd_json_parts.specs.Bytes.{byte_at, quote};
     ghost use Rattle.simd_json_ondemand.specs.Keys.{is_key};
     ghost use Rattle.simd_json_ondemand.specs.Reached.{pointed_at};
     ghost use Rattle.simd_json_ondemand.specs.Sites.{site};
     ghost use Rattle.simd_json_ondemand.specs.Stopped.{told};
     ghost use Rattle.simd_json_ondemand.specs.Walks.{found};
     ghost use Rattle.simd_json_ondemand.specs.declared.unexpected.Expected.TheVariants.{Container};
-    ghost use Rattle.simd_json_parts.specs.Document as parts;
-    ghost use Rattle.simd_json_parts.specs.Pointed.{pointed, unescaped};
     ghost use Rattle.simd_json_parts.specs.PointedText.{text};
-    ghost use Rattle.simd_json_parts.specs.Views.{as_str, ok_map};
 
     /// Returns the value that a JSON Pointer names (RFC 6901), or `None` where it is malformed or
     /// leads nowhere. `None` does not tell the end of an array or an object from bytes that are
@@ -89,7 +87,7 @@ impl<'d> Value<'d> {
     }
 
     // The value that a pointer names.
-    fn follow(self, pointer: &str) -> Result<Option<Value<'d>>, Stop<'d>>
+    fn follow(self, pointer: &str) -> Result<Option<Value<'d>>, StoppedAt<'d>>
         ensures walk { told (option_map site) result ≡ pointed_at pointer.now (site self.entry) }
         ensures document { (d : parts.Document) → doc self.entry ≡ Some d
             → option_map doc (found result)
@@ -140,11 +138,11 @@ impl<'d> Value<'d> {
 }
 
 impl<'d> Parent for Value<'d> {
-    type Stop = Stop<'d>;
+    type Stop = StoppedAt<'d>;
 
     ghost names = { λ v token found. told (option_map site) found ≡ named_at token (site v) };
 
-    fn child(self, token: &str, is_plain: bool) -> Result<Option<Value<'d>>, Stop<'d>> {
+    fn child(self, token: &str, is_plain: bool) -> Result<Option<Value<'d>>, StoppedAt<'d>> {
         if self.is_array() {
             return match read_index(token) {
                 Some(index) => self.element(index),
@@ -169,7 +167,7 @@ impl<'d> Parent for Value<'d> {
 }
 
 // The value of the first member with the key that a token is.
-fn find_named<'d>(object: Object<'d>, token: &[u8]) -> Result<Option<Value<'d>>, Stop<'d>>
+fn find_named<'d>(object: Object<'d>, token: &[u8]) -> Result<Option<Value<'d>>, StoppedAt<'d>>
     requires { is_some (unescaped token.now) ≡ true }
     ensures { told (option_map site) result
         ≡ member_reached (unescaped token.now) (member_sites object.entry) }

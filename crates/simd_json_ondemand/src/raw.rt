@@ -1,15 +1,14 @@
 //! The bytes of a value as they are written.
-ghost use Rattle.std.specs.Prelude.{◌≡◌};
+ghost use Rattle.std.specs.Prelude.{◌≡◌, true, Some, is_some, option_map};
 ghost use Rattle.simd_json_parts.specs.Bytes.{byte_at, is_closing, is_opening};
+ghost use Rattle.simd_json_parts.specs.Document as parts;
 
 use crate::skip::skip;
 use crate::value::Value;
 
 impl<'d> Value<'d> {
-    ghost use Rattle.std.specs.Prelude.{◌≡◌, true, Some, is_some, option_map};
     ghost use Rattle.simd_json_ondemand.specs.Docs.{doc, text, index_of};
     ghost use Rattle.simd_json_ondemand.specs.Written.{enclosed, written};
-    ghost use Rattle.simd_json_parts.specs.Document as parts;
 
     /// Returns the bytes of the value as they are written: of a string with its quotes, of a
     /// number, `true`, `false` or `null`, or of an array or an object from its opening to its

@@ -1,7 +1,8 @@
 //! JSON Lines: the lines of an input, each a document of its own.
-ghost use Rattle.std.specs.Prelude.{◌≡◌};
+ghost use Rattle.std.specs.Prelude.{◌≡◌, [], ◌∷◌, MatchOption};
 ghost use Rattle.simd_json_parts.specs.Pieces.{pieces};
 ghost use Rattle.simd_json_ondemand.specs.Lines.{filled, lines_left};
+ghost use Rattle.std.specs.Iterator.{YieldsFirstRef, item_count};
 
 use memchr::memchr;
 use simd_json_parts::charutils::is_blank;
@@ -40,7 +41,6 @@ pub fn lines(input: &[u8]) -> InputLines<'_>
 }
 
 impl<'i> InputLines<'i> {
-    ghost use Rattle.std.specs.Prelude.{◌≡◌, [], ◌∷◌, MatchOption};
     ghost use Rattle.simd_json_ondemand.specs.Lines.{pieces_left};
 
     // The next line, blank or not.
@@ -66,7 +66,6 @@ impl<'i> InputLines<'i> {
 impl<'i> Iterator for InputLines<'i> {
     type Item = &'i [u8];
 
-    ghost use Rattle.std.specs.Iterator.{YieldsFirstRef, item_count};
     ghost use Rattle.simd_json_ondemand.specs.Lines.{lines_left};
 
     ghost next_gives = { YieldsFirstRef lines_left };

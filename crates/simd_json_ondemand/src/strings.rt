@@ -1,11 +1,13 @@
 //! Strings: borrowed from the input where they have no escape, else decoded into a buffer.
-ghost use Rattle.std.specs.Prelude.{◌≡◌, ◌≤◌, ◌<◌, ◌+◌, length, drop, OnOk, IfErr};
+ghost use Rattle.std.specs.Prelude.{◌≡◌, ◌≤◌, ◌<◌, ◌+◌, length, drop, OnOk, IfErr, ◌⊎◌, Some, None};
+ghost use Rattle.std.specs.Prelude.{MatchOption, IfOk, option_map};
 ghost use Rattle.std.specs.Vec.{vec_capacity};
 ghost use Rattle.std.specs.List.{prefix_len};
 ghost use Rattle.simd_json_stages.specs.Capacities.{IsOutOfMemory};
 ghost use Rattle.simd_json_parts.specs.Bytes.{byte_at, quote};
 ghost use Rattle.simd_json_parts.specs.StringAt.{closing_quote};
 ghost use Rattle.simd_json_scalars.specs.StringContent.{is_plain};
+ghost use Rattle.simd_json_parts.specs.Accessors as accessors;
 
 use crate::value::Value;
 use memchr::memchr2;
@@ -14,13 +16,8 @@ use simd_json_scalars::stringparse::parse_str;
 use std::alloc::Allocator;
 
 impl<'d> Value<'d> {
-    ghost use Rattle.std.specs.Prelude.{◌≡◌, ◌<◌, ◌⊎◌, Some, None, MatchOption, IfOk, IfErr};
-    ghost use Rattle.std.specs.Prelude.{option_map};
-    ghost use Rattle.std.specs.Vec.{vec_capacity};
     ghost use Rattle.simd_json_ondemand.specs.Docs.{HasEscape, as_standing, index_of, string_len};
     ghost use Rattle.simd_json_ondemand.specs.Docs.{text};
-    ghost use Rattle.simd_json_parts.specs.Bytes.{byte_at, quote};
-    ghost use Rattle.simd_json_parts.specs.Accessors as accessors;
 
     /// Returns the string, if it has no escape, else `None`. [`decode`](Value::decode) returns any
     /// string.

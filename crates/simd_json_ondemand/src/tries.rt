@@ -7,8 +7,7 @@ use crate::walk::told;
 use simd_json_parts::node::ValueType;
 
 impl<'d> Value<'d> {
-    ghost use Rattle.std.specs.Prelude.{◌≡◌, ◌⊎◌, Some, None, IfOk, MatchResult};
-    ghost use Rattle.std.specs.Prelude.{ok_or, option_map};
+    ghost use Rattle.std.specs.Prelude.{◌≡◌, ◌⊎◌, Some, None, IfOk, MatchResult, ok_or, option_map};
     ghost use Rattle.std.specs.Result.{result_ok};
     ghost use Rattle.simd_json_ondemand.specs.Docs.{doc, form, as_standing, HasEscape};
     ghost use Rattle.simd_json_ondemand.specs.Iterated.{elements_to_come, all_some};
@@ -17,16 +16,15 @@ impl<'d> Value<'d> {
     ghost use Rattle.simd_json_ondemand.specs.Sites.{array_sites, element_sites, site};
     ghost use Rattle.simd_json_ondemand.specs.Sites.{member_sites, object_sites};
     ghost use Rattle.simd_json_ondemand.specs.Walked.{unexpected_here, tried, string_wanted};
-    ghost use Rattle.simd_json_ondemand.specs.Walked.{member_with};
-    ghost use Rattle.simd_json_ondemand.specs.Walked.{array_walk, object_walk};
+    ghost use Rattle.simd_json_ondemand.specs.Walked.{member_with, array_walk, object_walk};
     ghost use Rattle.simd_json_ondemand.specs.Walked.{elements_ahead, members_ahead};
     ghost use Rattle.simd_json_ondemand.specs.Walked.{members_from_first};
     ghost use Rattle.simd_json_ondemand.specs.Walks.{stopped, whole, first, walk_past};
-    ghost use Rattle.simd_json_parts.specs.Views.{ok_map};
+    ghost use Rattle.simd_json_parts.specs.Views.{ok_map, as_array, as_object, try_get};
+    ghost use Rattle.simd_json_parts.specs.Views.{try_get_idx};
     ghost use Rattle.simd_json_ondemand.specs.declared.unexpected.Expected.TheVariants.{Kind};
     ghost use Rattle.simd_json_parts.specs.Accessors as accessors;
     ghost use Rattle.simd_json_parts.specs.Document as parts;
-    ghost use Rattle.simd_json_parts.specs.Views.{as_array, as_object, try_get, try_get_idx};
 
     /// Returns the error that says that something else was expected of the value: for accessors
     /// that have no `try_` form.

@@ -1,4 +1,6 @@
 //! The error of the `try_` forms: where a walk stopped, and what was expected there.
+ghost use Rattle.std.specs.Prelude.{Some};
+
 use simd_json_parts::node::ValueType;
 use std::fmt;
 
@@ -25,7 +27,7 @@ pub enum Expected {
 
 /// What is in its place.
 #[derive(Clone, Copy, Debug, Drop, PartialEq, Eq)]
-pub enum Found {
+pub enum Got {
     /// A value of this kind. Of an array, an object or a string only the first byte was read.
     Value(ValueType),
     /// A token that is no value.
@@ -45,11 +47,10 @@ pub struct Unexpected {
     /// What was expected there.
     pub expected: Expected,
     /// What is there.
-    pub got: Found,
+    pub got: Got,
 }
 
 impl fmt::Display for Expected {
-    ghost use Rattle.std.specs.Prelude.{Some};
     ghost use Rattle.simd_json_ondemand.specs.Unexpected.{expected_text};
 
     ghost output = { λ expected. Some (expected_text expected) };
@@ -71,23 +72,21 @@ impl fmt::Display for Expected {
     }
 }
 
-impl fmt::Display for Found {
-    ghost use Rattle.std.specs.Prelude.{Some};
+impl fmt::Display for Got {
     ghost use Rattle.simd_json_ondemand.specs.Unexpected.{found_in_words};
 
     ghost output = { λ found. Some (found_in_words found) };
 
     fn fmt<W: fmt::Write>(&self, f: &mut fmt::Formatter<W>) -> fmt::Result {
         f.write_str(match self {
-            Found::Value(kind) => kind.words(),
-            Found::Other => "no value",
-            Found::End => "the end of the input",
+            Got::Value(kind) => kind.words(),
+            Got::Other => "no value",
+            Got::End => "the end of the input",
         })
     }
 }
 
 impl fmt::Display for Unexpected {
-    ghost use Rattle.std.specs.Prelude.{Some};
     ghost use Rattle.simd_json_ondemand.specs.Unexpected.{unexpected_text};
 
     ghost output = { λ e. Some (unexpected_text e) };

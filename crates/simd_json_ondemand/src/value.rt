@@ -1,6 +1,15 @@
 //! A document, and a value in it: places among the structural indexes.
-ghost use Rattle.std.specs.Prelude.{◌≡◌, ◌<◌, length};
+ghost use Rattle.std.specs.Prelude.{◌≡◌, ◌<◌, length, ◌⊎◌, ℕ, Ok, Err, Some, None, IfOk, OnOk};
+ghost use Rattle.std.specs.Prelude.{IfErr, slice_index, drop};
 ghost use Rattle.simd_json_check.specs.Scanned.{IsWholeScan};
+ghost use Rattle.simd_json_check.specs.Checkers.{IsUnchecked};
+ghost use Rattle.simd_json_parts.specs.Answer.{answer};
+ghost use Rattle.simd_json_parts.specs.InputFaults.{input_fault};
+ghost use Rattle.simd_json_parts.specs.Positions.{positions};
+ghost use Rattle.simd_json_stages.specs.Capacities.{IsScanError};
+ghost use Rattle.simd_json_parts.specs.Bytes.{byte_at};
+ghost use Rattle.simd_json_parts.specs.Tokens.{form_at};
+ghost use Rattle.simd_json_parts.specs.Document as parts;
 
 use simd_json_check::Checker;
 use simd_json_parts::error::Result;
@@ -26,14 +35,7 @@ pub struct Value<'d> {
 }
 
 impl<'d> Document<'d> {
-    ghost use Rattle.std.specs.Prelude.{◌≡◌, ◌⊎◌, ℕ, Ok, Err, Some, None, IfOk, OnOk, IfErr};
-    ghost use Rattle.simd_json_check.specs.Checkers.{IsUnchecked};
     ghost use Rattle.simd_json_ondemand.specs.Docs.{places, root, text};
-    ghost use Rattle.simd_json_parts.specs.Answer.{answer};
-    ghost use Rattle.simd_json_parts.specs.Document as parts;
-    ghost use Rattle.simd_json_parts.specs.InputFaults.{input_fault};
-    ghost use Rattle.simd_json_parts.specs.Positions.{positions};
-    ghost use Rattle.simd_json_stages.specs.Capacities.{IsScanError};
 
     /// Finds the structural indexes of an input, as [`Index::scan`] does, and returns its document,
     /// which borrows both. The input is neither copied nor written.
@@ -126,11 +128,8 @@ impl<'d> Document<'d> {
 }
 
 impl<'d> Document<'d> {
-    ghost use Rattle.std.specs.Prelude.{◌≡◌, ◌<◌, length, slice_index};
     ghost use Rattle.simd_json_ondemand.specs.Docs.{doc, form, root, text, places};
     ghost use Rattle.simd_json_ondemand.specs.Sites.{site};
-    ghost use Rattle.simd_json_parts.specs.Bytes.{byte_at};
-    ghost use Rattle.simd_json_parts.specs.Tokens.{form_at};
 
     // The first byte of the token with this number.
     #[inline(always)]
@@ -159,9 +158,7 @@ impl<'d> Document<'d> {
 }
 
 impl<'d> Value<'d> {
-    ghost use Rattle.std.specs.Prelude.{◌≡◌, ◌<◌, length, drop};
     ghost use Rattle.simd_json_ondemand.specs.Docs.{text, index_of, form};
-    ghost use Rattle.simd_json_parts.specs.Bytes.{byte_at};
     ghost use Rattle.simd_json_ondemand.specs.Standing.{opens_array, opens_object};
 
     // The input from the value's first byte on.

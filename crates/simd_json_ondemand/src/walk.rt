@@ -1,26 +1,28 @@
 //! The walk along an array or an object, over any bytes. Each step tests what the grammar has at
 //! that place, and tells an item and the end from a place where the walk stops. Of that place only
 //! its number is kept: what is there is read where an error is asked for.
-ghost use Rattle.std.specs.Prelude.{◌≡◌};
+ghost use Rattle.std.specs.Prelude.{◌≡◌, ◌==◌, ◌<◌, ◌≤◌, ◌+◌, ◌-◌, length, drop, IfOk, IfSome};
+ghost use Rattle.std.specs.Prelude.{false, option_map, slice_index};
 ghost use Rattle.simd_json_ondemand.specs.Stopped.{error_at, told};
-ghost use Rattle.simd_json_ondemand.specs.Walks.{begins_value, found};
+ghost use Rattle.simd_json_ondemand.specs.Walks.{may_begin_value, found};
+ghost use Rattle.simd_json_parts.specs.Bytes.{byte_at, comma, quote, right_brace, right_bracket};
 
 use crate::array::Position;
 use crate::skip::skip;
-use crate::unexpected::{Expected, Found, Unexpected};
+use crate::unexpected::{Expected, Got, Unexpected};
 use crate::value::{Document, Value};
 
 /// Where a walk stopped, and what it expected there. Its fields lie where those of a value lie in
 /// an `Option<Value>`: else a value that is found is written in pieces, and read at once.
 #[derive(Clone, Copy)]
-pub struct Stop<'d> {
+pub struct StoppedAt<'d> {
     pub(crate) expected: Expected,
     pub(crate) document: Document<'d>,
     // how many structural indexes are before it
     pub(crate) at: usize,
 }
 
-impl<'d> Stop<'d> {
+impl<'d> StoppedAt<'d> {
     // The error that names the place.
     #[cold]
     pub(crate) fn error(self) -> Unexpected
@@ -32,7 +34,7 @@ impl<'d> Stop<'d> {
             return Unexpected {
                 index: document.input.len(),
                 expected,
-                got: Found::End,
+                got: Got::End,
             };
         }
         let value = Value {
@@ -40,8 +42,8 @@ impl<'d> Stop<'d> {
             at: self.at,
         };
         let got = match value.value_type() {
-            Some(kind) => Found::Value(kind),
-            None => Found::Other,
+            Some(kind) => Got::Value(kind),
+            None => Got::Other,
         };
         Unexpected {
             index: document.indexes[self.at] as usize,
@@ -53,7 +55,7 @@ impl<'d> Stop<'d> {
 
 // What a walk found, without the place where it stopped.
 #[inline(always)]
-pub(crate) fn found<T>(walked: Result<Option<T>, Stop<'_>>) -> Option<T>
+pub(crate) fn found<T>(walked: Result<Option<T>, StoppedAt<'_>>) -> Option<T>
     ensures { result ≡ found walked.entry }
 {
     match walked {
@@ -64,7 +66,7 @@ pub(crate) fn found<T>(walked: Result<Option<T>, Stop<'_>>) -> Option<T>
 
 // What a walk found, or the error that names the place where it stopped.
 #[inline(always)]
-pub(crate) fn told<T>(walked: Result<T, Stop<'_>>) -> Result<T, Unexpected>
+pub(crate) fn told<T>(walked: Result<T, StoppedAt<'_>>) -> Result<T, Unexpected>
     ensures { result ≡ told (λ x. x) walked.entry }
 {
     match walked {
@@ -74,8 +76,6 @@ pub(crate) fn told<T>(walked: Result<T, Stop<'_>>) -> Result<T, Unexpected>
 }
 
 impl<'d> Document<'d> {
-    ghost use Rattle.std.specs.Prelude.{◌≡◌, ◌==◌, ◌<◌, ◌≤◌, ◌+◌, ◌-◌, length, drop};
-    ghost use Rattle.std.specs.Prelude.{IfOk, IfSome, false, option_map, slice_index};
     ghost use Rattle.simd_json_ondemand.specs.Docs.{places, text};
     ghost use Rattle.simd_json_ondemand.specs.Stopped.{error_at, told};
     ghost use Rattle.simd_json_ondemand.specs.Unexpected.{unexpected};
@@ -83,17 +83,15 @@ impl<'d> Document<'d> {
     ghost use Rattle.simd_json_ondemand.specs.Walks.{behind_item, item_ahead};
     ghost use Rattle.simd_json_ondemand.specs.Walks.{element_ahead, member_ahead, member_here};
     ghost use Rattle.simd_json_ondemand.specs.Within.{IsBehindComma, IsItemAt};
-    ghost use Rattle.simd_json_parts.specs.Bytes.{byte_at, comma, quote};
-    ghost use Rattle.simd_json_parts.specs.Bytes.{right_brace, right_bracket};
 
     // Where something else was expected of the token with this number.
     #[inline(always)]
-    pub(crate) fn stop(self, at: usize, expected: Expected) -> Stop<'d>
+    pub(crate) fn stop(self, at: usize, expected: Expected) -> StoppedAt<'d>
         ensures error { error_at result
             ≡ unexpected (text self.entry) expected (drop at (places self.entry)) }
         ensures expected { result.expected ≡ expected }
     {
-        Stop {
+        StoppedAt {
             expected,
             document: self,
             at,
@@ -102,13 +100,13 @@ impl<'d> Document<'d> {
 
     // The number of the value that begins here.
     #[inline(always)]
-    fn value_at(self, at: usize) -> Result<usize, Stop<'d>>
+    fn value_at(self, at: usize) -> Result<usize, StoppedAt<'d>>
         requires { at ≤ length (places self) }
         ensures value { told (λ k. drop k (places self.entry)) result
             ≡ value_here (text self.entry) (drop at (places self.entry)) }
         ensures bound { IfOk result (λ k. (k ≡ at) × (k < length (places self.entry))) }
     {
-        if at < self.indexes.len() && begins_value(self.byte(at)) {
+        if at < self.indexes.len() && may_begin_value(self.byte(at)) {
             return Ok(at);
         }
         Err(self.stop(at, Expected::Value))
@@ -116,7 +114,7 @@ impl<'d> Document<'d> {
 
     // The number of the token behind one that begins with this byte.
     #[inline(always)]
-    fn behind(self, at: usize, byte: u8, expected: Expected) -> Result<usize, Stop<'d>>
+    fn behind(self, at: usize, byte: u8, expected: Expected) -> Result<usize, StoppedAt<'d>>
         requires { at ≤ length (places self) }
         ensures token { told (λ k. drop k (places self.entry)) result
             ≡ behind_token (text self.entry) byte expected (drop at (places self.entry)) }
@@ -137,7 +135,7 @@ impl<'d> Document<'d> {
         at: usize,
         close: u8,
         expected: Expected,
-    ) -> Result<Option<usize>, Stop<'d>>
+    ) -> Result<Option<usize>, StoppedAt<'d>>
         requires at { at ≤ length (places self) }
         requires close { (close == comma) ≡ false }
         ensures item { told (option_map (λ k. drop k (places self.entry))) result
@@ -165,7 +163,7 @@ impl<'d> Document<'d> {
         position: Position,
         close: u8,
         expected: Expected,
-    ) -> Result<Option<usize>, Stop<'d>>
+    ) -> Result<Option<usize>, StoppedAt<'d>>
         requires at { at < length (places self) }
         requires close { (close == comma) ≡ false }
         ensures item { told (option_map (λ k. drop k (places self.entry))) result
@@ -192,7 +190,7 @@ impl<'d> Document<'d> {
         self,
         at: usize,
         position: Position,
-    ) -> Result<Option<usize>, Stop<'d>>
+    ) -> Result<Option<usize>, StoppedAt<'d>>
         requires { at < length (places self) }
         ensures element { told (option_map (λ k. drop k (places self.entry))) result
             ≡ element_ahead (text self.entry) position (drop at (places self.entry)) }
@@ -212,7 +210,7 @@ impl<'d> Document<'d> {
         self,
         at: usize,
         position: Position,
-    ) -> Result<Option<usize>, Stop<'d>>
+    ) -> Result<Option<usize>, StoppedAt<'d>>
         requires { at < length (places self) }
         ensures member { told (option_map (λ k. drop (k - 2) (places self.entry))) result
             ≡ member_ahead (text self.entry) position (drop at (places self.entry)) }
@@ -231,7 +229,7 @@ impl<'d> Document<'d> {
 
     // The number of the value of the member whose key is here.
     #[inline(always)]
-    fn member_at(self, key: usize) -> Result<usize, Stop<'d>>
+    fn member_at(self, key: usize) -> Result<usize, StoppedAt<'d>>
         requires { key ≤ length (places self) }
         ensures member { told (λ k. drop (k - 2) (places self.entry)) result
             ≡ member_here (text self.entry) (drop key (places self.entry)) }
@@ -247,8 +245,8 @@ impl<'d> Document<'d> {
 
 // Whether a value may begin with the byte.
 #[inline(always)]
-fn begins_value(c: u8) -> bool
-    ensures { result ≡ begins_value c }
+fn may_begin_value(c: u8) -> bool
+    ensures { result ≡ may_begin_value c }
 {
     BEGINNINGS[c as usize]
 }

@@ -1,9 +1,8 @@
 -- A string where the input has it.
-use Rattle.std.proofs.Common.{◌≡◌, ◌∙◌, ◌≤◌, ◌<◌, ◌⊎◌, ◌+◌, ◌∷◌, ap, sym, refl, eq-eqb, ℕ, List, [], length, Bor}
-use Rattle.std.proofs.Common.{Option, Some, None, true, false}
+use Rattle.std.proofs.Common.{◌≡◌, ◌∙◌, ◌≤◌, ◌<◌, ◌⊎◌, ◌+◌, ◌∷◌, ap, sym, refl, eq-eqb, ℕ, List, [], length, Bor, Option, Some, None, true}
+use Rattle.std.proofs.Common.{false, ◌&&◌, nat_eq, slice_range, IsSome, MatchOption}
 use Rattle.std.specs.Cmp.Lexicographic.{pointwise}
 use Rattle.std.specs.Option.{option_eq}
-use Rattle.std.specs.Prelude.{◌&&◌, nat_eq, slice_range, IsSome, MatchOption}
 
 equal-bytes : (xs : List ℕ) → pointwise nat_eq xs xs ≡ true
 equal-bytes [] = refl

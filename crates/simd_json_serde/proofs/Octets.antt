@@ -1,10 +1,9 @@
 -- Bytes that are read from an array, one more each time.
 use Rattle.std.proofs.Common.{◌≡◌, ◌∙◌, ◌<◌, ◌+◌, ◌^◌, ◌∷◌, ◌++◌, ap, sym, subst, refl, arith, ℕ, List, [], length, get_or, slice_get}
-use Rattle.std.proofs.Common.{Option, Some, None, true, false, Result, Ok, Err, IfErr, IfOk, OnOk, inl, inr}
+use Rattle.std.proofs.Common.{Option, Some, None, true, false, Result, Ok, Err, IfErr, IfOk, OnOk, inl, inr, nat_lt, option_and_then}
 use Rattle.std.proofs.lemmas.Grind.{common_steps}
 use Rattle.std.proofs.lemmas.Bool.{lt-ltb}
 use Rattle.std.proofs.lemmas.List.{length-append}
-use Rattle.std.specs.Prelude.{nat_lt, option_and_then}
 use borrow.Author.Count.{below_more}
 use Rattle.serde.specs.Event.{octets}
 use Rattle.simd_json_parts.specs.Nodes.{Item, static_item, decimal_item, string_item, array_item, object_item, item_of}

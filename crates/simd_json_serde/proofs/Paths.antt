@@ -1,15 +1,12 @@
 -- The way to a node, along the nodes of a document.
-use Rattle.std.proofs.Common.{◌≡◌, ◌≤◌, ◌<◌, ◌+◌, ◌-◌, ◌∙◌, ap, sym, subst, refl, true, false, arith, ℕ, zero, suc, Bool, List, [], ◌∷◌}
-use Rattle.std.proofs.Common.{◌++◌}
-use Rattle.std.proofs.Common.{drop, length, slice_get, get_or, Some, None}
+use Rattle.std.proofs.Common.{◌≡◌, ◌≤◌, ◌<◌, ◌+◌, ◌-◌, ◌∙◌, ap, sym, subst, refl, true, false, arith, ℕ, zero, suc, List, [], ◌∷◌}
+use Rattle.std.proofs.Common.{◌++◌, drop, length, slice_get, get_or, Some, None, is_some, option_and_then, cond, ◌==◌, ◌||◌}
 use Rattle.std.proofs.lemmas.Option.{slice_get-get_or}
-use Rattle.std.specs.Prelude.{is_some, option_and_then}
-use Rattle.std.specs.Prelude.{cond, ◌==◌, ◌||◌}
 use Rattle.std.proofs.Math.Seq.{drop-append_seam}
 use Rattle.std.proofs.lemmas.List.{append_assoc, append-nil, drop-drop, length-append, length-drop}
 use Rattle.std.proofs.lemmas.Bool.{le-ltb, lt-ltb, false≢true, ne_eqb}
-use Rattle.simd_json_parts.specs.Document.{Document, null, boolean, integer, decimal, string, array, object}
-use Rattle.simd_json_parts.specs.Document.{Elements, no_elements, element, Members, no_members, member}
+use Rattle.simd_json_parts.specs.Document.{Document, null, boolean, integer, decimal, string, array, object, Elements, no_elements, element}
+use Rattle.simd_json_parts.specs.Document.{Members, no_members, member}
 use Rattle.simd_json_parts.specs.Listing.{listing, elements_listing, members_listing}
 use Rattle.simd_json_parts.specs.Nodes.{Item, string_item, array_item, object_item}
 use Rattle.simd_json_parts.proofs.Documents.Fronts.{positive}
@@ -24,15 +21,6 @@ pub way-none : (d : Document) (node : ℕ) → way d 0 node ≡ []
 way-none (array ds) node = refl
 way-none (object ms) node = refl
 way-none _ node = refl
-
-shut : (b : Bool) (path : List ℕ) → cond (b || true) [] path ≡ []
-shut true path = refl
-shut false path = refl
-
-pub way-here : (d : Document) (depth : ℕ) → way d depth 0 ≡ []
-way-here (array ds) depth = shut (depth == 0) _
-way-here (object ms) depth = shut (depth == 0) _
-way-here _ depth = refl
 
 -- ---- nodes that begin with some items
 
@@ -304,9 +292,6 @@ module _ (ns : List Item) (node at : ℕ) (n : Item) (got : slice_get ns at ≡ 
 pub no-token : (d : Document) (m : ℕ) → ((depth : ℕ) → way d (depth + 1) m ≡ []) → (depth : ℕ) → way d depth m ≡ []
 no-token d m none zero = way-none d m
 no-token d m none (suc depth) = ap (λ k. way d k m) (omega arith) ∙ none depth
-
-pub past-way : (d : Document) (node at depth : ℕ) → node ≤ at → way d depth (node - at) ≡ []
-past-way d node at depth past = ap (way d depth) (omega (arith, past)) ∙ way-here d depth
 
 pub token-then : (old new token path whole : List ℕ) → new ≡ old ++ token → whole ≡ token ++ path → new ++ path ≡ old ++ whole
 token-then old new token path whole appended is =

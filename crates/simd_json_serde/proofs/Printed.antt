@@ -1,7 +1,6 @@
 -- What is written of a value: the text of a document.
-use Rattle.std.proofs.Common.{◌≡◌, ap, refl, sym, subst, ℕ, Bool, false, List, [], Some, Option, IfOk, Result, Ok, Err, OnOk, OnErr, inl, inr}
-use Rattle.std.proofs.Common.{MatchResult, IsUtf8, take}
-use Rattle.std.specs.Prelude.{IsErr, IsErrAnd}
+use Rattle.std.proofs.Common.{◌≡◌, ap, refl, sym, subst, ℕ, Bool, false, List, [], Some, Option, IfOk, Result, Ok, Err, OnOk, OnErr, inl}
+use Rattle.std.proofs.Common.{inr, MatchResult, IsUtf8, take, IsErr, IsErrAnd}
 use Rattle.std.specs.Io.KnownBytes.{Appends}
 use Rattle.std.specs.declared.io.Error.{Error}
 use Rattle.json.specs.Lex.{tokens}

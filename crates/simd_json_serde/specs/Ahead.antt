@@ -1,7 +1,6 @@
 -- What the next node says of a value, as a function: of what is no key, a step returns exactly that.
-use Rattle.std.specs.Prelude.{◌≡◌, ◌⊎◌, ℕ, ◌+◌, ◌-◌, ◌^◌, ◌<◌, ◌≤◌, ◌&&◌, ℤ, pos, neg_ℤ, int_le, int_lt, List}
-use Rattle.std.specs.Prelude.{slice_get, length, nat_lt, if◌then◌else◌}
-use Rattle.std.specs.Prelude.{[], Bool, true, false, Option, Some, None, option_and_then, decimal}
+use Rattle.std.specs.Prelude.{◌≡◌, ◌⊎◌, ℕ, ◌+◌, ◌-◌, ◌^◌, ◌<◌, ◌≤◌, ◌&&◌, ℤ, pos, neg_ℤ, int_le, int_lt, List, slice_get, length, nat_lt}
+use Rattle.std.specs.Prelude.{if◌then◌else◌, [], Bool, true, false, Option, Some, None, option_and_then, decimal}
 use Rattle.std.specs.Fmt.{signed_decimal}
 use Rattle.std.specs.Float.{Float, Format, float_is_finite}
 use lib.Ieee.{of_int}

@@ -1,14 +1,13 @@
 -- The nodes that each step of a typed read takes, and what it returns for them.
-use Rattle.std.specs.Prelude.{◌≡◌, ℕ, ◌+◌, ◌^◌, ◌<◌, ◌≤◌, ◌⊎◌, ℤ, pos, List, [], ◌∷◌, ◌++◌, length, get_or}
-use Rattle.std.specs.Prelude.{drop, Bool, true, false, Some, slice_get, codes, decimal, encode_utf8, IsTrue}
+use Rattle.std.specs.Prelude.{◌≡◌, ℕ, ◌+◌, ◌^◌, ◌<◌, ◌≤◌, ◌⊎◌, ℤ, pos, List, [], ◌∷◌, ◌++◌, length, get_or, drop, Bool, true, false, Some}
+use Rattle.std.specs.Prelude.{slice_get, codes, decimal, encode_utf8, IsTrue}
 use Rattle.std.specs.Fmt.{signed_decimal}
 use Rattle.std.specs.Float.{Float, Format, binary32, binary64, float_is_finite}
 use Rattle.std.specs.Str.Parse.{IsNumeral, digits_value, signed_digits_value, without_leading_plus, without_leading_sign}
 use lib.Ieee.{of_int}
 use Rattle.fast_float.specs.Parse.{parse_float}
-use Rattle.serde.specs.Event.{Event, boolean, signed, unsigned, single, double, character, text, octets, nothing}
-use Rattle.serde.specs.Event.{unit_variant, seq_begins, seq_ends, map_begins, map_ends}
-use Rattle.serde.specs.Event.{field_key, variant_key, key_begins, key_ends, flattens}
+use Rattle.serde.specs.Event.{Event, boolean, signed, unsigned, single, double, character, text, octets, nothing, unit_variant, seq_begins}
+use Rattle.serde.specs.Event.{seq_ends, map_begins, map_ends, field_key, variant_key, key_begins, key_ends, flattens}
 use Rattle.serde.specs.Names.{Finds}
 use Rattle.serde.specs.declared.name.Name.{Name}
 use Rattle.simd_json_parts.specs.Document.{Document}

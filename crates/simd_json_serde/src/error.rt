@@ -1,6 +1,9 @@
 //! Why nothing was read.
-ghost use Rattle.std.specs.Prelude.{◌≡◌, ◌⊎◌, ◌↔◌, IsTrue};
+ghost use Rattle.std.specs.Prelude.{◌≡◌, ◌⊎◌, ◌↔◌, IsTrue, Some};
 ghost use Rattle.simd_json_serde.specs.Words.{found_words, wanted_words};
+ghost use Rattle.std.specs.Fmt.{DisplaysOnOk};
+ghost use Rattle.simd_json_parts.specs.Document.{Document};
+ghost use Rattle.simd_json_parts.specs.Listing.{listing};
 
 use crate::nodes::Nodes;
 use crate::path::append_path;
@@ -93,12 +96,8 @@ pub struct Mismatch {
 }
 
 impl Mismatch {
-    ghost use Rattle.std.specs.Prelude.{Some};
-    ghost use Rattle.std.specs.Fmt.{DisplaysOnOk};
-    ghost use Rattle.simd_json_parts.specs.Document.{Document};
     ghost use Rattle.simd_json_serde.specs.Messages.{path_of, given_name, mismatch_reason};
     ghost use Rattle.simd_json_serde.specs.Outcomes.{HasPath};
-    ghost use Rattle.simd_json_parts.specs.Listing.{listing};
     ghost use Rattle.simd_json_serde.specs.Nodes.{items_of};
 
     // Of the value around a node, with the name that the reader kept last, if the fault has one.
@@ -211,7 +210,6 @@ fn expected_words(kind: ValueType) -> &'static str
 }
 
 impl fmt::Display for Mismatch {
-    ghost use Rattle.std.specs.Prelude.{Some};
     ghost use Rattle.simd_json_serde.specs.Messages.{printed_mismatch};
 
     ghost output = { λ m. Some (printed_mismatch m) };
@@ -243,7 +241,6 @@ pub enum ReadError {
 }
 
 impl ReadError {
-    ghost use Rattle.simd_json_parts.specs.Document.{Document};
     ghost use Rattle.simd_json_serde.specs.Outcomes.{HasErrorPath, IsNoMemory};
 
     pub(crate) fn no_memory(alloc: Global) -> ReadError
@@ -255,7 +252,6 @@ impl ReadError {
 }
 
 impl fmt::Display for ReadError {
-    ghost use Rattle.std.specs.Prelude.{Some};
     ghost use Rattle.simd_json_serde.specs.Messages.{printed_read_error};
 
     ghost output = { λ e. Some (printed_read_error e) };

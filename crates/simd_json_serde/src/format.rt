@@ -1,16 +1,15 @@
 //! The steps of a read.
-ghost use Rattle.std.specs.Prelude.{◌≡◌, ◌≢◌, ◌≤◌, ◌⊎◌, ◌↔◌, ◌+◌, ℕ, List, []};
-ghost use Rattle.std.specs.Prelude.{true, false, length, slice_get};
-ghost use Rattle.std.specs.Prelude.{take, nat_lt, is_some, IsTrue, MatchBool, MatchOption};
-ghost use Rattle.std.specs.Prelude.{Some, None, IfOk, IfErr, OnOk, OnErr};
-ghost use Rattle.std.specs.Prelude.{encode_utf8, slice_range, string_bytes};
+ghost use Rattle.std.specs.Prelude.{◌≡◌, ◌≢◌, ◌≤◌, ◌⊎◌, ◌↔◌, ◌+◌, ℕ, List, [], true, false, length};
+ghost use Rattle.std.specs.Prelude.{slice_get, take, nat_lt, is_some, IsTrue, MatchBool};
+ghost use Rattle.std.specs.Prelude.{MatchOption, Some, None, IfOk, IfErr, OnOk, OnErr, encode_utf8};
+ghost use Rattle.std.specs.Prelude.{slice_range, string_bytes};
 ghost use Rattle.std.specs.Result.{result_ok};
 ghost use Rattle.std.specs.Char.{IsScalar};
 ghost use Rattle.std.specs.Float.{binary32, binary64};
 ghost use Rattle.serde.specs.Event.{boolean, signed as signed_event, unsigned as unsigned_event};
-ghost use Rattle.serde.specs.Event.{single, double, character, text as text_event};
-ghost use Rattle.serde.specs.Event.{nothing, seq_begins, seq_ends, map_begins, map_ends};
-ghost use Rattle.serde.specs.Event.{key_begins, octets, struct_begins};
+ghost use Rattle.serde.specs.Event.{single, double, character, text as text_event, nothing};
+ghost use Rattle.serde.specs.Event.{seq_begins, seq_ends, map_begins, map_ends, key_begins, octets};
+ghost use Rattle.serde.specs.Event.{struct_begins};
 ghost use Rattle.simd_json_serde.specs.Ahead.{ahead, truth, signed, unsigned, float, string_text};
 ghost use Rattle.simd_json_serde.specs.Ahead.{kind_in, is_null, array_count, object_count};
 ghost use Rattle.simd_json_serde.specs.Ahead.{CanEnter, CanSkip, NothingIsLeft, AreBytesAhead};
@@ -22,8 +21,7 @@ ghost use Rattle.simd_json_parts.specs.Listing.{listing};
 ghost use Rattle.simd_json_parts.specs.Nodes.{Item, item_of};
 ghost use Rattle.simd_json_serde.specs.Nodes.{items_of};
 ghost use Rattle.simd_json_serde.specs.declared.node_reader.NodeReader.{NodeReader as SpecReader};
-ghost use Rattle.simd_json_serde.specs.Steps.{ReadsAs, PicksName, Stands};
-ghost use Rattle.simd_json_serde.specs.Steps.{AreBytesAt, Closes};
+ghost use Rattle.simd_json_serde.specs.Steps.{ReadsAs, PicksName, Stands, AreBytesAt, Closes};
 
 use crate::error::{MismatchKind, StepFault};
 use crate::node_reader::{Mark, NodeReader};

@@ -33,10 +33,10 @@
 //! | nodes, by a `Deserialize` of your own | [`NodeReader`] |
 //!
 //! To write a type, call [`to_string`], [`to_vec`] or [`to_writer`], or a `_pretty` form. The
-//! toolchain's `serde_json` makes the text: a float is written as the shortest literal that reads as
-//! it, or as `null` if it is not finite. A key may be a string, a number or a truth value. Each text
-//! is checked before it is returned: a `Serialize` that is written by hand may have its steps in an
-//! order of which no JSON text comes.
+//! toolchain's `serde_json` makes the text: a float is written as the shortest literal that reads
+//! as it, or as `null` if it is not finite. A key may be a string, a number or a truth value. Each
+//! text is checked before it is returned: a `Serialize` that is written by hand may have its steps
+//! in an order of which no JSON text comes.
 //!
 //! All that the derives read is read: structs, `Option`, `Vec`, tuples, maps, enums with or without
 //! a tag, `flatten`, `default`, `rename`, `deny_unknown_fields`, recursive types. Integers of all
@@ -45,8 +45,8 @@
 //!
 //! # Errors
 //!
-//! [`ReadError::Parse`] is the parse's error, with its kind, index and character. [`ReadError::Mismatch`]
-//! says how a document does not fit the type, and where, as
+//! [`ReadError::Parse`] is the parse's error, with its kind, index and character.
+//! [`ReadError::Mismatch`] says how a document does not fit the type, and where, as
 //! `/statuses/3/user/id: expected an integer, found a string`: the path is a JSON Pointer
 //! (RFC 6901), found only after the read failed.
 //!
@@ -81,8 +81,8 @@
 //!
 //! A text that is written is a document (RFC 8259), compact or pretty, with the tokens of the
 //! events that the value sends, in their order, where its `Serialize` says which it sends
-//! (`IsPrinted`). The writer gets all of it, a beginning if it fails, and nothing of a value that has
-//! no text (`WritesText`).
+//! (`IsPrinted`). The writer gets all of it, a beginning if it fails, and nothing of a value that
+//! has no text (`WritesText`).
 //!
 //! Not proved, but tested beside `serde_json`: that a derived type is read as the document says,
 //! and what it sends, since derives have no contract.

@@ -1,15 +1,14 @@
 //! The JSON Pointer (RFC 6901) of a value, found from one of its nodes.
-ghost use Rattle.std.specs.Prelude.{◌≡◌, ◌≤◌, ◌<◌, ◌+◌, ◌-◌, ◌^◌, ℕ, [], ◌++◌, length};
-ghost use Rattle.std.specs.Prelude.{IfOk, MatchOption, OnOk, is_some, option_and_then, option_map};
+ghost use Rattle.std.specs.Prelude.{◌≡◌, ◌≤◌, ◌<◌, ◌+◌, ◌-◌, ◌^◌, ℕ, [], ◌++◌, length, IfOk};
+ghost use Rattle.std.specs.Prelude.{MatchOption, OnOk, is_some, option_and_then, option_map};
 ghost use Rattle.std.specs.Prelude.{slice_get, string_bytes};
 ghost use Rattle.simd_json_parts.specs.Document.{Document, Elements, Members};
 ghost use Rattle.simd_json_parts.specs.Listing.{elements_listing, listing, members_listing};
 ghost use Rattle.simd_json_parts.specs.Nodes.{item_of};
 ghost use Rattle.simd_json_serde.specs.Ahead.{array_count, string_text};
 ghost use Rattle.simd_json_serde.specs.Nodes.{items_of};
-ghost use Rattle.simd_json_serde.specs.Paths.{BeginAt, IsStep, elements_way};
-ghost use Rattle.simd_json_serde.specs.Paths.{token_character, index_token, key_token};
-ghost use Rattle.simd_json_serde.specs.Paths.{members_way, way};
+ghost use Rattle.simd_json_serde.specs.Paths.{BeginAt, IsStep, elements_way, token_character};
+ghost use Rattle.simd_json_serde.specs.Paths.{index_token, key_token, members_way, way};
 
 use crate::error::StepFault;
 use crate::nodes::Nodes;

@@ -152,9 +152,9 @@ impl Scratch {
         }
     }
 
-    /// Reserves capacity for inputs of up to `input_len` bytes, 36 bytes for each. With as much in
-    /// buffers, which their [`reserve`](Buffers::reserve) sees to, a read of such an input allocates
-    /// what the type does, and nothing else.
+    /// Reserves capacity for inputs of up to `input_len` bytes, 36 bytes for each. With as much
+    /// in buffers, which their [`reserve`](Buffers::reserve) sees to, a read of such an input
+    /// allocates what the type does, and nothing else.
     ///
     /// Returns an error if an allocation fails; what has been reserved by then stays.
     pub fn reserve(&mut self, input_len: usize) -> Result<(), AllocError>

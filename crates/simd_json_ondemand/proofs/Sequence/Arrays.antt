@@ -1,17 +1,14 @@
 -- The elements of an array one after another, as a cursor comes to them.
-use Rattle.std.proofs.Common.{◌≡◌, ◌≢◌, refl, sym, ◌∙◌, ap, ℕ, ◌≤◌, inl, inr, false, ◌==◌, cond, List, []}
-use Rattle.std.proofs.Common.{◌∷◌, length, arith}
+use Rattle.std.proofs.Common.{◌≡◌, ◌≢◌, refl, sym, ◌∙◌, ap, ℕ, ◌≤◌, inl, inr, false, ◌==◌, cond, List, [], ◌∷◌, length, arith}
 use Rattle.std.specs.Prelude.{Option, Some, Result, Ok, Err}
 use Rattle.std.proofs.lemmas.Bool.{cases_Bool, eqb-true, false≢true}
 use Rattle.simd_json_parts.specs.Bytes.{byte_at}
 use Rattle.simd_json_parts.specs.Document.{Document, array, Elements, elements, element, Members}
 use Rattle.simd_json_parts.specs.Faults.{fault_at}
-use Rattle.simd_json_parts.specs.Tokens.{Token, Form, begin_array, end_array}
-use Rattle.simd_json_parts.specs.Tokens.{value_separator, form_at}
+use Rattle.simd_json_parts.specs.Tokens.{Token, Form, begin_array, end_array, value_separator, form_at}
 use Rattle.simd_json_parts.specs.TokensAlong.{goes_on, tokens_along}
-use Rattle.simd_json_parts.specs.Descent.{◌>>=◌, Reads, after_element, element_end, elements_by, first_element}
-use Rattle.simd_json_parts.specs.Descent.{array_from}
-use Rattle.simd_json_parts.specs.Descent.{object_from, value_of, value_from}
+use Rattle.simd_json_parts.specs.Descent.{◌>>=◌, Reads, after_element, element_end, elements_by, first_element, array_from, object_from}
+use Rattle.simd_json_parts.specs.Descent.{value_of, value_from}
 use Rattle.simd_json_parts.specs.declared.error.Error.{Error}
 use Rattle.simd_json_parts.specs.declared.error.ErrorType.TheVariants.{Syntax}
 use Rattle.simd_json_parts.proofs.Descent.ArrayTurns.{elements_by-turn}

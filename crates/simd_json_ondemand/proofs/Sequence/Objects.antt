@@ -1,17 +1,14 @@
 -- The members of an object one after another, as a cursor comes to them.
-use Rattle.std.proofs.Common.{◌≡◌, ◌≢◌, refl, sym, ◌∙◌, ap, ℕ, ◌<◌, ◌≤◌, inl, inr, false, ◌==◌, cond, List, []}
-use Rattle.std.proofs.Common.{◌∷◌, length, drop, get_or, arith}
-use Rattle.std.specs.Prelude.{Option, Some, Result, Ok, Err}
+use Rattle.std.proofs.Common.{◌≡◌, ◌≢◌, refl, sym, ◌∙◌, ap, ℕ, ◌<◌, ◌≤◌, inl, inr, false, ◌==◌, cond, List, [], ◌∷◌, length, drop, get_or}
+use Rattle.std.proofs.Common.{arith, Option, Some, Result, Ok, Err}
 use Rattle.std.proofs.lemmas.Bool.{cases_Bool, eqb-true, false≢true}
 use Rattle.simd_json_parts.specs.Bytes.{byte_at}
 use Rattle.simd_json_parts.specs.Document.{Document, object, Elements, Members, members, member}
 use Rattle.simd_json_parts.specs.Faults.{fault_at}
 use Rattle.simd_json_parts.specs.StringAt.{string_at}
-use Rattle.simd_json_parts.specs.Tokens.{Token, Form, begin_object, end_object, name_separator}
-use Rattle.simd_json_parts.specs.Tokens.{value_separator, string_token, form_at}
+use Rattle.simd_json_parts.specs.Tokens.{Token, Form, begin_object, end_object, name_separator, value_separator, string_token, form_at}
 use Rattle.simd_json_parts.specs.TokensAlong.{goes_on, tokens_along}
-use Rattle.simd_json_parts.specs.Descent.{◌>>=◌, Reads}
-use Rattle.simd_json_parts.specs.Descent.{array_from, name_of, name_from, after_name, name_end, after_member, member_end}
+use Rattle.simd_json_parts.specs.Descent.{◌>>=◌, Reads, array_from, name_of, name_from, after_name, name_end, after_member, member_end}
 use Rattle.simd_json_parts.specs.Descent.{members_by, first_member, object_from, value_of, value_from}
 use Rattle.simd_json_parts.specs.declared.error.Error.{Error}
 use Rattle.simd_json_parts.specs.declared.error.ErrorType.{ErrorType}
@@ -21,8 +18,7 @@ use Rattle.simd_json_parts.proofs.Descent.Shrinking.{value_from-leaves}
 use Rattle.simd_json_stages.proofs.Machine.Steps.{is_end_object, is_string, is_name_separator, ends_member}
 use Rattle.simd_json_stages.proofs.Tokens.TokenForms as forms
 use Rattle.simd_json_ondemand.specs.Viewed.{read_along, first_read}
-use Rattle.simd_json_ondemand.specs.Remaining.{value_at_first}
-use Rattle.simd_json_ondemand.specs.Remaining.{paired, members_inside, members_behind, members_past}
+use Rattle.simd_json_ondemand.specs.Remaining.{value_at_first, paired, members_inside, members_behind, members_past}
 use Rattle.simd_json_ondemand.proofs.Sequence.Reading.{takes, enough, left}
 use Rattle.simd_json_check.proofs.Enough.{kept, object_from-keeps}
 

@@ -1,8 +1,7 @@
-use Rattle.std.proofs.Common.{◌≡◌, sym, ◌∙◌, ap, ℕ, List, [], ◌++◌, length, take, not, nat_eq, Option, Some, None, option_map}
+use Rattle.std.proofs.Common.{◌≡◌, sym, ◌∙◌, ap, ℕ, List, [], ◌++◌, length, take, not, nat_eq, Option, Some, None, option_map, encode_utf8}
 use Rattle.std.proofs.lemmas.Str.{length-encode}
-use Rattle.std.specs.Prelude.{encode_utf8}
 use lib.Seq.{take-append_seam}
-use Rattle.simd_json_ondemand.specs.Wanted.{key_of}
+use Rattle.simd_json_ondemand.specs.WantedKey.{key_of}
 use Rattle.simd_json_ondemand.proofs.key.after_escape.Goals as goal
 
 abbrev piece-of : Option (List ℕ × ℕ) → List ℕ

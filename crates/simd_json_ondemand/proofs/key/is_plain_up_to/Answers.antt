@@ -1,6 +1,5 @@
-use Rattle.std.proofs.Common.{sym, ◌∙◌, ap, arith}
+use Rattle.std.proofs.Common.{sym, ◌∙◌, ap, arith, leb-true}
 use lib.Count.{count_trailing_zeros}
-use Rattle.std.proofs.lemmas.Bool.{leb-true}
 use Rattle.simd_json_ondemand.proofs.Keys.{no-stop, before-stop}
 use Rattle.simd_json_ondemand.proofs.key.is_plain_up_to.Goals as goal
 

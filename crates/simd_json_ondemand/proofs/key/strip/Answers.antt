@@ -1,5 +1,4 @@
-use Rattle.std.proofs.Common.{◌≡◌, ap, ◌++◌, Option, Some, None, MatchOption}
-use Rattle.std.proofs.lemmas.Bool.{ne_eqb}
+use Rattle.std.proofs.Common.{◌≡◌, ap, ◌++◌, Option, Some, None, MatchOption, ne_eqb}
 use Rattle.simd_json_parts.proofs.Lists.Prefixes.{not-stripped, stripped}
 use Rattle.simd_json_ondemand.proofs.key.strip.Goals as goal
 

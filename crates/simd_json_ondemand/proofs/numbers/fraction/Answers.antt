@@ -1,6 +1,5 @@
-use Rattle.std.proofs.Common.{◌≡◌, ◌≢◌, ◌∙◌, sym, ap, subst, List, ℕ, Bool, true, false}
-use Rattle.std.proofs.Common.{◌==◌, ◌+◌, ◌-◌, ◌<◌, ◌≤◌, length, get_or, take, drop, arith}
-use Rattle.std.specs.Prelude.{Some}
+use Rattle.std.proofs.Common.{◌≡◌, ◌≢◌, ◌∙◌, sym, ap, subst, List, ℕ, Bool, true, false, ◌==◌, ◌+◌, ◌-◌, ◌<◌, ◌≤◌, length, get_or, take}
+use Rattle.std.proofs.Common.{drop, arith, Some}
 use mir.Val.{bool_byte}
 use Rattle.std.specs.Float.{binary64}
 use Rattle.std.specs.Float.Numeral.{scan_numeral}

@@ -2,7 +2,8 @@ use Rattle.std.proofs.Common.{◌≡◌, ◌∙◌, ap, ◌+◌, ◌-◌, drop, 
 use Rattle.std.proofs.lemmas.List.{drop_all}
 use mir.Val.{bool_byte}
 use Rattle.simd_json_ondemand.specs.Closing.{closed_at, first_bytes}
-use Rattle.simd_json_ondemand.proofs.Counting.{step-closing, step-other, closed_at-none, closed_at-end, byte-le}
+use Rattle.simd_json_stages.proofs.Scan.ScanLaws.{bool-small}
+use Rattle.simd_json_ondemand.proofs.Counting.{step-closing, step-other, closed_at-none, closed_at-end}
 use Rattle.simd_json_ondemand.proofs.skip.close_slowly.Goals.{then-byte-eq125+else-depth-eq0, else-byte-eq125}
 use Rattle.simd_json_ondemand.proofs.skip.close_slowly.Goals as goal
 
@@ -41,7 +42,7 @@ loop-end-preserved c =
           ≡ l.depth + bool_byte (eqb (bit_or (get_or b (get_or is l.end 0) 0) 32) 123) = ap (λ n. n + c.from-depth.result) w.depth-is
           ∙ ap (λ n. l.depth + n) c.from-depth.ensures in
           let rest = ap (λ n. closed_at n (first_bytes b (drop (l.end + 1) is))) depth in
-          let small = byte-le (eqb (bit_or (get_or b (get_or is l.end 0) 0) 32) 123) in
+          let small = bool-small (eqb (bit_or (get_or b (get_or is l.end 0) 0) 32) 123) in
           record {
             from = omega (arith, i.from);
             to = omega arith;

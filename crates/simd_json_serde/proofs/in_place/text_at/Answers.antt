@@ -1,6 +1,5 @@
-use Rattle.std.proofs.Common.{◌≡◌, ◌+◌, ◌-◌, arith, drop, subst, take}
+use Rattle.std.proofs.Common.{◌≡◌, ◌+◌, ◌-◌, arith, drop, subst, take, IsUtf8}
 use Rattle.std.proofs.lemmas.Str.{IsUtf8-from_is_utf8}
-use Rattle.std.specs.Prelude.{IsUtf8}
 use Rattle.simd_json_serde.proofs.in_place.text_at.Goals as goal
 
 pub from_utf8_unchecked-requires : goal.from_utf8_unchecked-requires

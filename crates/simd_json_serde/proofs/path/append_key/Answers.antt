@@ -1,8 +1,6 @@
-use Rattle.std.proofs.Common.{◌∙◌, ◌++◌, ◌∷◌, [], ap, sym}
-use Rattle.std.specs.Prelude.{flat_map, string_bytes}
+use Rattle.std.proofs.Common.{◌∙◌, ◌++◌, ◌∷◌, [], ap, sym, flat_map, string_bytes, append_assoc, map-id}
 use Rattle.std.proofs.lemmas.Iterator.{YieldsList-from_chars}
 use Rattle.std.proofs.lemmas.Iterator.Consumers.{YieldsList-end}
-use Rattle.std.proofs.lemmas.List.{append_assoc, map-id}
 use Rattle.simd_json_parts.specs.Bytes.{slash}
 use Rattle.simd_json_serde.specs.Paths.{token_character}
 use Rattle.simd_json_serde.proofs.path.append_key.Goals as goal

@@ -1,5 +1,4 @@
-use Rattle.std.proofs.Common.{◌≡◌, ◌++◌, ◌∷◌, []}
-use Rattle.std.specs.Prelude.{flat_map, string_bytes}
+use Rattle.std.proofs.Common.{◌≡◌, ◌++◌, ◌∷◌, [], flat_map, string_bytes}
 use Rattle.simd_json_parts.specs.Bytes.{slash}
 use Rattle.simd_json_serde.specs.Paths.{token_character}
 use Rattle.simd_json_serde.proofs.path.append_key.Given as goal

@@ -1,5 +1,4 @@
-use Rattle.std.proofs.Common.{subst, arith}
-use Rattle.std.specs.Prelude.{string_bytes}
+use Rattle.std.proofs.Common.{subst, arith, string_bytes}
 use Rattle.simd_json_serde.specs.Nodes.{items_of}
 use Rattle.simd_json_serde.specs.Paths.{IsStep}
 use Rattle.simd_json_serde.proofs.Paths.{at-root, ends-none, ends-step, on-way}

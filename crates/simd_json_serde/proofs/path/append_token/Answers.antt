@@ -1,5 +1,4 @@
-use Rattle.std.proofs.Common.{◌<◌, ◌-◌, ◌+◌, ◌∙◌, refl, sym, arith}
-use Rattle.std.specs.Prelude.{string_bytes}
+use Rattle.std.proofs.Common.{◌<◌, ◌-◌, ◌+◌, ◌∙◌, refl, sym, arith, string_bytes}
 use Rattle.simd_json_parts.specs.Nodes.{item_of}
 use Rattle.simd_json_serde.specs.Nodes.{items_of}
 use Rattle.simd_json_serde.specs.Paths.{index_token, key_token, way}

@@ -4,7 +4,8 @@ use Rattle.simd_json_serde.proofs.Printed.{unwritten, written-out}
 use Rattle.simd_json_serde.proofs.writing.to_writer_pretty.Goals as goal
 
 pub returns-in_err-text : goal.returns-in_err-text
-returns-in_err-text g c = unwritten (IsPrinted true (g.T.Described.writes c.args.value.now)) c.from_residual.result _ c.from_residual.ensures.0
+returns-in_err-text g c =
+    unwritten (IsPrinted true (g.T.Described.writes c.args.value.now)) c.from_residual.result _ c.from_residual.ensures.0
 
 pub returns : goal.returns
 returns g c =

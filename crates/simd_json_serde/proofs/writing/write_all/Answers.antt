@@ -1,5 +1,4 @@
-use Rattle.std.proofs.Common.{rules, []}
-use Rattle.std.specs.Prelude.{None}
+use Rattle.std.proofs.Common.{rules, [], None}
 use Rattle.simd_json_print.specs.Texts.{TargetState}
 use Rattle.simd_json_print.proofs.Texts.{ended-written, ended-begun}
 use Rattle.simd_json_serde.proofs.writing.write_all.Goals as goal

@@ -1,5 +1,4 @@
-use Rattle.std.proofs.Common.{ap, sym, subst, [], ◌∷◌, ◌≡◌}
-use Rattle.std.specs.Prelude.{MatchOption}
+use Rattle.std.proofs.Common.{ap, sym, subst, [], ◌∷◌, ◌≡◌, MatchOption}
 use Rattle.simd_json_ondemand.specs.Docs.{doc}
 use Rattle.simd_json_ondemand.specs.Iterated.{elements_to_come}
 use Rattle.simd_json_ondemand.specs.Sites.{element_sites, site}

@@ -1,5 +1,4 @@
-use Rattle.std.proofs.Common.{refl, sym, ◌∙◌, ap, subst, drop}
-use Rattle.std.specs.Prelude.{Ok, IfSome, option_map}
+use Rattle.std.proofs.Common.{refl, sym, ◌∙◌, ap, subst, drop, Ok, IfSome, option_map}
 use Rattle.simd_json_ondemand.specs.Sites.{element_site}
 use Rattle.simd_json_ondemand.specs.Stopped.{error_at}
 use Rattle.simd_json_ondemand.specs.Within.{IsItemAt}

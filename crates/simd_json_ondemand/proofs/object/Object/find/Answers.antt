@@ -1,5 +1,4 @@
-use Rattle.std.proofs.Common.{sym, subst, [], ◌≡◌}
-use Rattle.std.specs.Prelude.{MatchOption, Some}
+use Rattle.std.proofs.Common.{sym, subst, [], ◌≡◌, MatchOption, Some}
 use Rattle.simd_json_parts.specs.Document.{string}
 use Rattle.simd_json_ondemand.specs.Docs.{doc}
 use Rattle.simd_json_ondemand.specs.Walked.{members_ahead, members_from_first}

@@ -1,5 +1,4 @@
-use Rattle.std.proofs.Common.{ap, sym, subst, [], ◌∷◌, ◌≡◌}
-use Rattle.std.specs.Prelude.{MatchOption}
+use Rattle.std.proofs.Common.{ap, sym, subst, [], ◌∷◌, ◌≡◌, MatchOption}
 use Rattle.simd_json_ondemand.specs.IteratedMembers.{members_left, pair_doc}
 use Rattle.simd_json_ondemand.specs.Sites.{member_sites, pair_site}
 use Rattle.simd_json_ondemand.specs.Walked.{members_ahead}

@@ -1,10 +1,10 @@
-use Rattle.std.proofs.Common.{◌∙◌, ap, sym, refl, Err}
-use Rattle.std.specs.Prelude.{is_some}
+use Rattle.std.proofs.Common.{◌∙◌, ap, sym, refl, Err, is_some}
 use Rattle.simd_json_parts.specs.Pointed.{unescaped}
 use Rattle.simd_json_ondemand.specs.Reached.{element_reached, member_reached}
 use Rattle.simd_json_ondemand.specs.Sites.{array_sites, member_sites, object_sites}
 use Rattle.simd_json_ondemand.specs.Stopped.{error_at}
-use Rattle.simd_json_ondemand.proofs.Sites.{array-named, no-member, object-named, other-named, to-stop, unescaped-plain}
+use Rattle.simd_json_parts.proofs.Pointers.Keys.{unescaped-plain}
+use Rattle.simd_json_ondemand.proofs.Sites.{array-named, no-member, object-named, other-named, to-stop}
 use Rattle.simd_json_ondemand.proofs.pointer.ValueParent.child.Goals as goal
 
 pub returns-in-Some : goal.returns-in-Some

@@ -1,5 +1,4 @@
-use Rattle.std.proofs.Common.{◌≡◌, [], ◌∙◌, ap, sym, subst}
-use Rattle.std.specs.Prelude.{MatchOption, option_map}
+use Rattle.std.proofs.Common.{◌≡◌, [], ◌∙◌, ap, sym, subst, MatchOption, option_map}
 use Rattle.simd_json_ondemand.specs.Iterated.{all_some, elements_to_come}
 use Rattle.simd_json_ondemand.specs.Sites.{element_sites, array_sites}
 use Rattle.simd_json_ondemand.specs.Stopped.{error_at}

@@ -1,9 +1,7 @@
-use Rattle.std.proofs.Common.{◌≡◌, sym, ◌∙◌, ap, ℕ, List}
-use Rattle.std.specs.Prelude.{option_and_then, codes, true}
+use Rattle.std.proofs.Common.{◌≡◌, sym, ◌∙◌, ap, ℕ, List, option_and_then, codes, true}
 use Rattle.simd_json_ondemand.specs.Docs.{text, index_of}
 use Rattle.simd_json_parts.specs.Views as views
-use Rattle.simd_json_check.proofs.Words.{spells, spelt-here}
-use Rattle.simd_json_check.proofs.Words.{true-standing, false-standing}
+use Rattle.simd_json_check.proofs.Words.{spells, spelt-here, true-standing, false-standing}
 use Rattle.simd_json_ondemand.proofs.Standing.{no-bool}
 use Rattle.simd_json_ondemand.proofs.value.Value.as_bool.Goals as goal
 

@@ -1,6 +1,4 @@
-use Rattle.std.proofs.Common.{◌≡◌, sym, subst, ℕ, List, length, take, ◌≤◌, arith}
-use Rattle.std.specs.Prelude.{IsUtf8}
-use Rattle.std.proofs.lemmas.List.{length-take-le}
+use Rattle.std.proofs.Common.{◌≡◌, sym, subst, ℕ, List, length, take, ◌≤◌, arith, IsUtf8, length-take-le}
 use Rattle.simd_json_ondemand.specs.Docs.{text, index_of, form}
 use Rattle.simd_json_parts.specs.Tokens.{scalar}
 use Rattle.simd_json_parts.specs.NumberAt.{number_at}

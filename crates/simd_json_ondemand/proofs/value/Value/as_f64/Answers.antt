@@ -1,5 +1,4 @@
-use Rattle.std.proofs.Common.{◌∙◌, sym, ap}
-use Rattle.std.specs.Prelude.{option_map}
+use Rattle.std.proofs.Common.{◌∙◌, sym, ap, option_map}
 use Rattle.simd_json_ondemand.proofs.Floats.{some-float}
 use Rattle.simd_json_ondemand.proofs.value.Value.as_f64.Goals as goal
 

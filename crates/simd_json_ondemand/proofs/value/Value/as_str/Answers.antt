@@ -1,5 +1,4 @@
-use Rattle.std.proofs.Common.{◌∙◌, inl}
-use Rattle.std.proofs.lemmas.Bool.{ne_eqb}
+use Rattle.std.proofs.Common.{◌∙◌, inl, ne_eqb}
 use Rattle.simd_json_ondemand.specs.Docs.{text, index_of}
 use Rattle.simd_json_ondemand.proofs.Standing.{no-string}
 use Rattle.simd_json_ondemand.proofs.value.Value.as_str.Goals as goal

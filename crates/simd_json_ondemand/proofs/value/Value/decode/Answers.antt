@@ -1,6 +1,4 @@
-use Rattle.std.proofs.Common.{◌≡◌, refl, sym, ◌∙◌, ap, subst, ℕ, ◌+◌, List, take, length, ◌<◌, arith}
-use Rattle.std.proofs.lemmas.Bool.{ne_eqb}
-use Rattle.std.specs.Prelude.{IsUtf8}
+use Rattle.std.proofs.Common.{◌≡◌, refl, sym, ◌∙◌, ap, subst, ℕ, ◌+◌, List, take, length, ◌<◌, arith, IsUtf8, ne_eqb}
 use Rattle.simd_json_parts.specs.Bytes.{byte_at, quote}
 use Rattle.simd_json_parts.specs.StringAt.{closing_quote, string_at}
 use Rattle.simd_json_ondemand.specs.Docs.{text, index_of, string_len}

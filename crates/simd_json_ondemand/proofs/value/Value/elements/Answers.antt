@@ -1,5 +1,4 @@
-use Rattle.std.proofs.Common.{refl, ◌∙◌, sym, ap, eqb, ◌+◌, ◌≤◌, length, arith}
-use Rattle.std.specs.Prelude.{option_map}
+use Rattle.std.proofs.Common.{refl, ◌∙◌, sym, ap, eqb, ◌+◌, ◌≤◌, length, arith, option_map}
 use Rattle.simd_json_parts.specs.Document.{elements}
 use Rattle.simd_json_ondemand.specs.Iterated.{all_some}
 use Rattle.simd_json_ondemand.specs.Sites.{element_site}

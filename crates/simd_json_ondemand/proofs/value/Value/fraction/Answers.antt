@@ -1,5 +1,4 @@
-use Rattle.std.proofs.Common.{◌≡◌, ◌∙◌, sym, ap, List, ℕ, true, Option, Some, None}
-use Rattle.std.specs.Prelude.{IfSome, option_and_then}
+use Rattle.std.proofs.Common.{◌≡◌, ◌∙◌, sym, ap, List, ℕ, true, Option, Some, None, IfSome, option_and_then}
 use Rattle.std.specs.Float.{binary64}
 use Rattle.std.specs.Float.Ieee.{Float}
 use Rattle.fast_float.specs.Parse.{parse_float}

@@ -1,6 +1,4 @@
-use Rattle.std.proofs.Common.{◌≡◌, sym, ◌∙◌, ap, ℕ, List, length, ◌≤◌, true, false, arith}
-use Rattle.std.specs.Prelude.{codes}
-use Rattle.std.proofs.lemmas.Bool.{ne_eqb}
+use Rattle.std.proofs.Common.{◌≡◌, sym, ◌∙◌, ap, ℕ, List, length, ◌≤◌, true, false, arith, codes, ne_eqb}
 use Rattle.simd_json_parts.specs.Bytes.{byte_at, quote}
 use Rattle.simd_json_ondemand.specs.Docs.{text, index_of}
 use Rattle.simd_json_ondemand.specs.declared.value.Value.{Value}

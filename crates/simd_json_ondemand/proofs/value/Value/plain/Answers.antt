@@ -1,6 +1,5 @@
-use Rattle.std.proofs.Common.{◌≡◌, sym, ◌∙◌, ap, ℕ, List}
+use Rattle.std.proofs.Common.{◌≡◌, sym, ◌∙◌, ap, ℕ, List, Some}
 use Rattle.std.proofs.lemmas.List.{get_or_default}
-use Rattle.std.specs.Prelude.{Some}
 use Rattle.simd_json_parts.specs.Bytes.{byte_at, quote}
 use Rattle.simd_json_ondemand.specs.Docs.{text, index_of}
 use Rattle.simd_json_ondemand.proofs.Quoted.{IsQuoted, IsAhead, quoted-value, first-stop, has-escape, plain-utf8, plain-string}

@@ -1,5 +1,4 @@
-use Rattle.std.proofs.Common.{sym, ◌∙◌, ap, ℕ, List}
-use Rattle.std.specs.Prelude.{option_map}
+use Rattle.std.proofs.Common.{sym, ◌∙◌, ap, ℕ, List, option_map}
 use Rattle.simd_json_ondemand.specs.Docs.{text, index_of}
 use Rattle.simd_json_ondemand.proofs.Standing.{no-kind, none-of}
 use Rattle.simd_json_ondemand.proofs.value.Value.scalar_type.Goals as goal

@@ -1,5 +1,4 @@
-use Rattle.std.proofs.Common.{◌≡◌, ◌∙◌, ap, sym, subst}
-use Rattle.std.specs.Prelude.{MatchResult, option_map}
+use Rattle.std.proofs.Common.{◌≡◌, ◌∙◌, ap, sym, subst, MatchResult, option_map}
 use Rattle.std.specs.Result.{result_ok}
 use Rattle.simd_json_ondemand.specs.Iterated.{all_some, elements_to_come}
 use Rattle.simd_json_ondemand.specs.Sites.{element_sites, array_sites}

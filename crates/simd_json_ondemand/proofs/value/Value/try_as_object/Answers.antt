@@ -1,5 +1,4 @@
-use Rattle.std.proofs.Common.{◌≡◌, ◌∙◌, ap, sym, subst}
-use Rattle.std.specs.Prelude.{MatchResult, option_map}
+use Rattle.std.proofs.Common.{◌≡◌, ◌∙◌, ap, sym, subst, MatchResult, option_map}
 use Rattle.std.specs.Result.{result_ok}
 use Rattle.simd_json_ondemand.specs.IteratedMembers.{all_members, members_left}
 use Rattle.simd_json_ondemand.specs.Sites.{member_sites, object_sites}

@@ -1,5 +1,4 @@
-use Rattle.std.proofs.Common.{◌∙◌, ap}
-use Rattle.std.specs.Prelude.{option_map}
+use Rattle.std.proofs.Common.{◌∙◌, ap, option_map}
 use Rattle.simd_json_ondemand.specs.Docs.{doc}
 use Rattle.simd_json_ondemand.specs.Sites.{site}
 use Rattle.simd_json_ondemand.specs.Walks.{found}

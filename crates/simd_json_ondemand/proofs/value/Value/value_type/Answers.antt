@@ -1,6 +1,5 @@
-use Rattle.std.proofs.Common.{◌≡◌, sym, ◌∙◌, ap, ℕ, List, ◌==◌, false}
+use Rattle.std.proofs.Common.{◌≡◌, sym, ◌∙◌, ap, ℕ, List, ◌==◌, false, ne_eqb}
 use Rattle.simd_json_parts.specs.Bytes.{byte_at}
-use Rattle.std.proofs.lemmas.Bool.{ne_eqb}
 use Rattle.simd_json_stages.proofs.Tokens.TokenForms.{opens, opens_object, quotes}
 use Rattle.simd_json_ondemand.specs.Docs.{text, index_of}
 use Rattle.simd_json_ondemand.specs.Standing.{kind_of}

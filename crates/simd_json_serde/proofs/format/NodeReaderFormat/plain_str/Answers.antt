@@ -1,5 +1,4 @@
-use Rattle.std.proofs.Common.{◌≡◌, ◌∙◌, ◌+◌, ap, sym, arith, length}
-use Rattle.std.specs.Prelude.{slice_range}
+use Rattle.std.proofs.Common.{◌≡◌, ◌∙◌, ◌+◌, ap, sym, arith, length, slice_range}
 use Rattle.simd_json_serde.proofs.Borrowed.{same-part}
 use Rattle.simd_json_serde.proofs.format.NodeReaderFormat.plain_str.Goals as goal
 

@@ -1,6 +1,5 @@
-use Rattle.std.proofs.Common.{◌∙◌, Some, ap, sym}
+use Rattle.std.proofs.Common.{◌∙◌, Some, ap, sym, option_map}
 use Rattle.std.proofs.lemmas.Option.{slice_get-map}
-use Rattle.std.specs.Prelude.{option_map}
 use Rattle.simd_json_serde.specs.KeptNodes.{item_in}
 use Rattle.simd_json_serde.proofs.in_place.PlacedNodes.get.Goals as goal
 

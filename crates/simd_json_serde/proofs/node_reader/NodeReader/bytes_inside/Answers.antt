@@ -1,6 +1,4 @@
-use Rattle.std.proofs.Common.{◌≡◌, ◌∙◌, ◌∷◌, ◌++◌, ◌+◌, [], ap, sym, arith, length, Some, None, get_or}
-use Rattle.std.proofs.lemmas.List.{length-append}
-use Rattle.std.specs.Prelude.{if◌then◌else◌}
+use Rattle.std.proofs.Common.{◌≡◌, ◌∙◌, ◌∷◌, ◌++◌, ◌+◌, [], ap, sym, arith, length, Some, None, get_or, if◌then◌else◌, length-append}
 use Rattle.simd_json_serde.specs.Nodes.{items_of}
 use Rattle.simd_json_serde.specs.Places.{spot}
 use Rattle.simd_json_serde.proofs.Octets.{next-place, next-bytes, reads-byte, byte-fits, any-error}

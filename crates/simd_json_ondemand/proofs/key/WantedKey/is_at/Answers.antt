@@ -1,10 +1,9 @@
-use Rattle.std.proofs.Common.{refl, ◌∙◌, arith}
-use Rattle.std.proofs.lemmas.Bool.{lt-ltb, ne_eqb}
+use Rattle.std.proofs.Common.{refl, ◌∙◌, arith, lt-ltb, ne_eqb}
 use Rattle.simd_json_ondemand.proofs.Keys.{not-key, the-key}
-use Rattle.simd_json_ondemand.proofs.key.Wanted.is_at.Goals.{then-bytes-same-eq92, else-bytes-same-eq92}
-use Rattle.simd_json_ondemand.proofs.key.Wanted.is_at.Goals.{else-same-lt8-via-then-same-lt8+else-same-self}
-use Rattle.simd_json_ondemand.proofs.key.Wanted.is_at.Goals.{else-same-lt8-via-else-same-lt8}
-use Rattle.simd_json_ondemand.proofs.key.Wanted.is_at.Goals as goal
+use Rattle.simd_json_ondemand.proofs.key.WantedKey.is_at.Goals.{then-bytes-same-eq92, else-bytes-same-eq92}
+use Rattle.simd_json_ondemand.proofs.key.WantedKey.is_at.Goals.{else-same-lt8-via-then-same-lt8+else-same-self}
+use Rattle.simd_json_ondemand.proofs.key.WantedKey.is_at.Goals.{else-same-lt8-via-else-same-lt8}
+use Rattle.simd_json_ondemand.proofs.key.WantedKey.is_at.Goals as goal
 
 pub returns-then-same-self : goal.returns-then-same-self
 returns-then-same-self c = elim c.if-bytes-same-eq92.branch [
