@@ -1,8 +1,1 @@
-pub mod Cells
-pub mod Failures
-pub mod Lines
-pub mod Ports
-pub mod Rejections
-pub mod Sources
-pub mod Statuses
-pub mod Turns
+pub mod Records

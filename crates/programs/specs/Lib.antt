@@ -1,0 +1,9 @@
+pub mod Cells
+pub mod Failures
+pub mod Lines
+pub mod Ports
+pub mod Rejections
+pub mod Shown
+pub mod Sources
+pub mod Statuses
+pub mod Turns
