@@ -1,8 +1,7 @@
 -- What a loop puts: what each element stands for, one after another.
-use Rattle.std.proofs.Common.{◌≡◌, ◌∙◌, ap, sym, true, ◌<◌, ◌+◌, ℕ, List, take, drop, length, get_or, flat_map, take-append-drop}
+use Rattle.std.proofs.Common.{◌≡◌, ◌∙◌, ap, sym, true, ◌<◌, ◌+◌, ℕ, List, take, drop, length, get_or, flat_map, take-append-drop, is_some}
 use Rattle.std.proofs.Math.Seq.{take-length}
 use Rattle.std.proofs.lemmas.List.Concat.{flat_map-append}
-use Rattle.std.specs.Prelude.{is_some}
 use Rattle.simd_json_print.specs.Texts.{TargetState, Adds}
 use Rattle.simd_json_print.specs.declared.text.Text.{Text}
 use Rattle.simd_json_print.proofs.FlatMaps.{flat_map-more}

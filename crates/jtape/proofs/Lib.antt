@@ -1,5 +1,5 @@
 mod NumberWords
 pub mod Given
-mod Layouts
-mod Outputs
+mod Forms
+pub mod Outputs
 mod Streams

@@ -1,8 +1,7 @@
 -- What is put of some pieces of an input, and of one more, and what a port's text ends with.
-use Rattle.std.proofs.Common.{◌≡◌, ◌∙◌, refl, ap, sym, subst, inl, inr, Bool, true, false, ◌&&◌, Option, Some}
-use Rattle.std.proofs.Common.{ℕ, List, [], ◌∷◌, ◌++◌, take, append-nil, append_assoc}
+use Rattle.std.proofs.Common.{◌≡◌, ◌∙◌, refl, ap, sym, subst, inl, inr, Bool, true, false, ◌&&◌, Option, Some, ℕ, List, [], ◌∷◌, ◌++◌, take}
+use Rattle.std.proofs.Common.{append-nil, append_assoc, Result, Ok, Err, OnOk, OnErr, IfOk, IfErr, is_ok, is_some}
 use Rattle.std.specs.Io.KnownBytes.{Appends}
-use Rattle.std.specs.Prelude.{Result, Ok, Err, OnOk, OnErr, IfOk, IfErr, is_ok, is_some}
 use Rattle.std.proofs.lemmas.List.Concat.{flat_map-append}
 use Rattle.std.proofs.lemmas.List.Folds.{list_all-append}
 use Rattle.jtape.specs.Pieces.{pieces, piece_text, pieces_text, is_clean, all_clean}
@@ -13,8 +12,7 @@ use Rattle.jtape.specs.declared.runs.RunFault.TheVariants.{Write}
 use Rattle.simd_json_parts.proofs.Pieces.{pieces-some}
 use Rattle.simd_json_print.specs.Texts.{TargetState, HasGiven, Adds}
 use Rattle.simd_json_print.specs.declared.text.Text.{Text}
-use Rattle.simd_json_print.proofs.Texts.{adds-none, adds-is, adds-then, adds-lost, Ends, ended-sound, ended-failed}
-use Rattle.simd_json_print.proofs.Texts.{sound-text, take-front}
+use Rattle.simd_json_print.proofs.Texts.{adds-none, adds-is, adds-then, adds-lost, Ends, ended-sound, ended-failed, sound-text, take-front}
 
 -- All pieces but the later ones are done: their text was put, and whether they are clean is known.
 pub record AreDone {T : Type 0} {size : ℕ} (state : T → TargetState) (old new : Text T size) (depth : ℕ) (input : List ℕ)

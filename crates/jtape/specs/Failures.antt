@@ -2,8 +2,8 @@
 use Rattle.std.specs.Prelude.{ℕ, List, codes, drop, Bool, true, false, Result, Ok, Err}
 use Rattle.std.specs.Option.{ok_or}
 use Rattle.jtape.specs.Settings.{settings_of}
-use Rattle.jtape.specs.declared.failure.Failure.{Failure}
-use Rattle.jtape.specs.declared.failure.Failure.TheVariants.{Usage, Run}
+use Rattle.jtape.specs.declared.runs.Failure.{Failure}
+use Rattle.jtape.specs.declared.runs.Failure.TheVariants.{Usage, Run}
 use Rattle.jtape.specs.declared.runs.RunFault.{RunFault}
 use Rattle.jtape.specs.declared.runs.RunFault.TheVariants.{Refused, Read, Write}
 use Rattle.jtape.specs.declared.words.Mode.{Mode}
@@ -15,12 +15,12 @@ fault_text (Refused e) = error_text e
 fault_text Read = codes "reading failed"
 fault_text Write = codes "writing failed"
 
-abbrev pub run_status : Result Bool RunFault → ℕ
-run_status (Ok true) = 0
-run_status (Ok false) = 1
-run_status (Err (Refused e)) = 1
-run_status (Err Read) = 3
-run_status (Err Write) = 3
+abbrev pub answer_status : Result Bool RunFault → ℕ
+answer_status (Ok true) = 0
+answer_status (Ok false) = 1
+answer_status (Err (Refused e)) = 1
+answer_status (Err Read) = 3
+answer_status (Err Write) = 3
 
 -- ---- of a program: its line, without its line feed
 
@@ -29,9 +29,9 @@ failure_text Usage = codes "usage: jtape MODE [DEPTH]"
 failure_text (Run fault) = fault_text fault
 
 abbrev pub exit_status_of : Result Bool Failure → ℕ
-exit_status_of (Ok all) = run_status (Ok all)
+exit_status_of (Ok all) = answer_status (Ok all)
 exit_status_of (Err Usage) = 2
-exit_status_of (Err (Run fault)) = run_status (Err fault)
+exit_status_of (Err (Run fault)) = answer_status (Err fault)
 
 -- what the arguments ask for, of which the first is the program's name
 abbrev pub requested_of : List (List ℕ) → Result (Mode × ℕ) Failure

@@ -1,7 +1,9 @@
 -- What a run of the program leaves.
-use Rattle.std.specs.Prelude.{◌≡◌, ◌⊎◌, ◌∷◌, ◌++◌, ℕ, List, take, ⊤, true, false, Bool, Option, Result, Ok, Err}
+use Rattle.std.specs.Prelude.{◌≡◌, ◌⊎◌, ◌∷◌, ◌++◌, ℕ, List, take, ⊤, Bool, Option, Result, Ok, Err}
 use Rattle.std.specs.Io.KnownBytes.{Appends}
-use Rattle.jsonl.specs.Ports.{HasRead}
+use Rattle.programs.specs.Ports.{HasRead}
+use Rattle.programs.specs.declared.failure.Failure.{Failure}
+use Rattle.programs.specs.declared.failure.Failure.TheVariants as failures
 use Rattle.jtape.specs.Output.{output}
 use Rattle.jtape.specs.Pieces.{pieces, pieces_text}
 use Rattle.jtape.specs.declared.runs.RunFault.{RunFault}
@@ -47,6 +49,7 @@ OnAnswer (Ok all) P = P
 OnAnswer (Err (Refused e)) P = (e ≡ whole_fault OutOfMemory) ⊎ P
 OnAnswer (Err _) P = ⊤
 
--- of a reader's port that has failed or not: it has, or an allocation failed
-abbrev pub IsReadFault : Bool → RunFault → Type 0
-IsReadFault failed fault = ((fault ≡ Read) × (failed ≡ true)) ⊎ ((fault ≡ lacks_memory) × (failed ≡ false))
+-- of a reader that was to be read to its end: it has failed, or an allocation
+abbrev pub run_fault : Failure → RunFault
+run_fault failures.Read = Read
+run_fault _ = lacks_memory

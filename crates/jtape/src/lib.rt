@@ -23,17 +23,11 @@
 //! [`requested`] parses its arguments, and [`exit_status`] is its status, also after a [`Failure`].
 #![tactic(auto)]
 
-mod failure;
-mod lines;
 mod output;
-mod port;
-mod positions;
 mod runs;
 mod stream;
 mod words;
 
-pub use failure::{Failure, exit_status, requested};
-pub use jsonl::Channel;
-pub use port::Port;
-pub use runs::{Answer, RunFault, run, status};
-pub use words::{Mode, number_named, settings};
+pub use programs::Channel;
+pub use runs::{Answer, Failure, Port, RunFault, exit_status, run, status};
+pub use words::{Mode, number_named, requested, settings};

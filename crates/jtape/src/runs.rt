@@ -1,29 +1,83 @@
 //! From a reader's bytes to a writer's, and how that ended: a message and an exit status.
-ghost use Rattle.std.specs.Prelude.{◌≡◌, ◌≢◌, ◌↔◌, ◌⊎◌, ◌<◌, ℕ, List, Option, length};
-ghost use Rattle.std.specs.Prelude.{true, false, IfOk, IfErr, OnOk, Err};
+ghost use Rattle.std.specs.Prelude.{◌≡◌, ◌≢◌, ◌↔◌, ◌⊎◌, ◌<◌, ℕ, List, Option, length, true, false};
+ghost use Rattle.std.specs.Prelude.{IfOk, IfErr, OnOk, Err, Some};
 ghost use Rattle.std.specs.Io.KnownBytes.{Consumes, IsAtEnd, Keeps};
-ghost use Rattle.jsonl.specs.Ports.{HasRead};
-ghost use Rattle.jtape.specs.Failures.{run_status};
-ghost use Rattle.jtape.specs.Runs.{HasRun, HasBegun, HasStopped, IsReadFault, OnAnswer};
-ghost use Rattle.jtape.specs.Runs.{lacks_memory};
+ghost use Rattle.jtape.specs.Failures.{exit_status_of, answer_status};
+ghost use Rattle.jtape.specs.Runs.{HasRun, HasBegun, HasStopped, OnAnswer, lacks_memory};
+ghost use Rattle.simd_json_parts.specs.Faults.{whole_fault};
+ghost use Rattle.simd_json_parts.specs.declared.error.ErrorType.{ErrorType};
 ghost use Rattle.jtape.specs.declared.runs.RunFault.TheVariants as faults;
 ghost use Rattle.jtape.specs.declared.words.Mode.TheVariants as modes;
 
 use crate::output::write_output;
-use crate::port::Port;
 use crate::stream::write_stream;
 use crate::words::Mode;
-use jsonl::Channel;
+use programs::{Channel, read_all};
 use simd_json::Error;
 use std::alloc::{AllocError, Allocator};
 use std::fmt;
 use std::io::{Read, Write};
+use std::marker::Model;
 
-type Result<T> = std::result::Result<T, RunFault>;
+/// A reader or a writer for [`run`] that records whether a call on it failed and whether it ended.
+/// Only the run's own calls set these flags, [`failed`](Port::failed), [`closed`](Port::closed) and
+/// [`ended`](Port::ended).
+#[derive(Drop)]
+pub struct Port<T> {
+    pub(crate) channel: Channel<T>,
+}
+
+impl<T> Model for Port<T> {
+    ghost use Rattle.programs.specs.Ports.{Watched};
+
+    ghost Value = { Watched T };
+
+    ghost view = { λ port. port.channel };
+}
+
+impl<T> Port<T> {
+    /// A port that has neither failed nor ended.
+    pub fn new(inner: T) -> Port<T>
+        ensures { result ≡ record { inner = inner; failed = false; closed = false; ended = false } }
+    {
+        Port {
+            channel: Channel::new(inner),
+        }
+    }
+
+    /// Whether a read or a write through the port returned an error, or a write wrote 0 bytes of a
+    /// non-empty buffer.
+    pub fn failed(&self) -> bool
+        ensures { result ≡ self.now.failed }
+    {
+        self.channel.failed()
+    }
+
+    /// Whether a write returned an error of kind `BrokenPipe`: who reads the output has had enough.
+    pub fn closed(&self) -> bool
+        ensures { result ≡ self.now.closed }
+    {
+        self.channel.closed()
+    }
+
+    /// Whether a read into a non-empty buffer returned 0.
+    pub fn ended(&self) -> bool
+        ensures { result ≡ self.now.ended }
+    {
+        self.channel.ended()
+    }
+
+    /// The reader or the writer.
+    pub fn into_inner(self) -> T
+        ensures { result ≡ self.inner }
+    {
+        self.channel.into_inner()
+    }
+}
 
 /// What a run returns. `Ok(false)`: in mode `Lines` some lines were rejected, and the others
 /// printed. A mode of one document returns `Ok(true)`, or its error.
-pub type Answer = Result<bool>;
+pub type Answer = Result<bool, RunFault>;
 
 /// Why a run wrote less than all of its output.
 #[derive(Debug, Drop, PartialEq)]
@@ -38,7 +92,6 @@ pub enum RunFault {
 
 impl From<Error> for RunFault {
     ghost use Rattle.jtape.specs.declared.runs.RunFault.TheVariants.{Refused};
-    ghost use Rattle.std.specs.Prelude.{◌≡◌};
 
     ghost from_gives = { λ e fault. fault ≡ Refused e };
 
@@ -49,9 +102,6 @@ impl From<Error> for RunFault {
 
 impl From<AllocError> for RunFault {
     ghost use Rattle.jtape.specs.declared.runs.RunFault.TheVariants.{Refused};
-    ghost use Rattle.std.specs.Prelude.{◌≡◌};
-    ghost use Rattle.simd_json_parts.specs.Faults.{whole_fault};
-    ghost use Rattle.simd_json_parts.specs.declared.error.ErrorType.{ErrorType};
 
     ghost from_gives = { λ _ fault. fault ≡ Refused (whole_fault ErrorType.OutOfMemory) };
 
@@ -60,8 +110,20 @@ impl From<AllocError> for RunFault {
     }
 }
 
+impl From<programs::Failure> for RunFault {
+    ghost use Rattle.jtape.specs.Runs.{run_fault};
+
+    ghost from_gives = { λ failure fault. fault ≡ run_fault failure };
+
+    fn from(failure: programs::Failure) -> RunFault {
+        match failure {
+            programs::Failure::Read => RunFault::Read,
+            _ => RunFault::from(AllocError),
+        }
+    }
+}
+
 impl fmt::Display for RunFault {
-    ghost use Rattle.std.specs.Prelude.{Some};
     ghost use Rattle.jtape.specs.Failures.{fault_text};
 
     ghost output = { λ fault. Some (fault_text fault) };
@@ -75,15 +137,58 @@ impl fmt::Display for RunFault {
     }
 }
 
+/// Why the program fails. It displays as the line for standard error.
+#[derive(Debug, Drop, PartialEq)]
+pub enum Failure {
+    /// The arguments can't be read, or are not understood.
+    Usage,
+    /// The run failed.
+    Run(RunFault),
+}
+
+impl From<RunFault> for Failure {
+    ghost use Rattle.jtape.specs.declared.runs.Failure.TheVariants.{Run};
+
+    ghost from_gives = { λ fault failure. failure ≡ Run fault };
+
+    fn from(fault: RunFault) -> Failure {
+        Failure::Run(fault)
+    }
+}
+
+impl fmt::Display for Failure {
+    ghost use Rattle.jtape.specs.Failures.{failure_text};
+
+    ghost output = { λ failure. Some (failure_text failure) };
+
+    fn fmt<W: fmt::Write>(&self, f: &mut fmt::Formatter<W>) -> fmt::Result {
+        match self {
+            Failure::Usage => f.write_str("usage: jtape MODE [DEPTH]"),
+            Failure::Run(fault) => write!(f, "{fault}"),
+        }
+    }
+}
+
 /// The exit status of a run: 0 if all was printed, 1 if an input was rejected or an allocation
 /// failed, 3 if the reader or the writer failed.
 pub fn status(answer: &Answer) -> u8
-    ensures { result ≡ run_status answer.now }
+    ensures { result ≡ answer_status answer.now }
 {
     match answer {
         Ok(true) => 0,
         Ok(false) | Err(RunFault::Refused(_)) => 1,
         Err(RunFault::Read | RunFault::Write) => 3,
+    }
+}
+
+/// The status that the program ends with: that of its run, or 2 where there was none.
+pub fn exit_status(ended: Result<bool, Failure>) -> u8
+    ensures { result ≡ exit_status_of ended }
+{
+    match ended {
+        Ok(all) => status(&Ok(all)),
+        Err(Failure::Usage) => 2,
+        Err(Failure::Run(fault)) => status(&Err(fault)),
     }
 }
 
@@ -109,6 +214,7 @@ pub fn status(answer: &Answer) -> u8
 ///     (status(&answer), writer.into_inner())
 /// }
 /// ```
+#[tactic(auto, using(crate::proofs::Outputs::one_document, crate::proofs::Outputs::read_faults))]
 pub fn run<A: Allocator + Copy, R: Read, W: Write>(
     a: A,
     mode: Mode,
@@ -137,42 +243,11 @@ pub fn run<A: Allocator + Copy, R: Read, W: Write>(
     ensures write { (result ≡ Err faults.Write) ↔ (writer.new.failed ≡ true) }
 {
     let mut input = read_all(a, &mut reader.channel)?;
-    match mode.layout() {
-        Some(layout) => {
-            write_output(a, layout, depth, input.as_mut_slice(), &mut writer.channel)?;
+    match mode {
+        Mode::Lines => write_stream(a, depth, input.as_mut_slice(), &mut writer.channel),
+        _ => {
+            write_output(a, mode, depth, input.as_mut_slice(), &mut writer.channel)?;
             Ok(true)
         }
-        None => write_stream(a, depth, input.as_mut_slice(), &mut writer.channel),
-    }
-}
-
-// How many bytes are read at a time.
-const BLOCK: usize = 16_384;
-
-// How many are reserved once a whole block was read. An allocator that maps so large a list by
-// itself grows it without a copy, and bytes that are never written take no memory.
-const MORE: usize = 262_144;
-
-// Reads to the reader's end.
-fn read_all<R: Read, A: Allocator>(a: A, reader: &mut Channel<R>) -> Result<Vec<u8, A>>
-    requires sound { reader.old.failed ≡ false }
-    requires going { reader.old.ended ≡ false }
-    ensures all { IfOk result (λ input.
-        HasRead (R.remaining reader.old.inner) (R.remaining reader.new.inner) input.items
-        × (reader.new.ended ≡ true) × (reader.new.failed ≡ false)) }
-    ensures fault { IfErr result (IsReadFault reader.new.failed) }
-{
-    let mut input = Vec::new(a);
-    let mut block = [0; BLOCK];
-    loop {
-        let count = match reader.read(&mut block) {
-            Ok(0) => return Ok(input),
-            Ok(count) => count,
-            Err(_) => return Err(RunFault::Read),
-        };
-        if input.is_empty() && count == BLOCK {
-            input.reserve(MORE)?;
-        }
-        input.extend_from_slice(&block[..count])?;
     }
 }

@@ -18,11 +18,11 @@ ghost use Rattle.simd_json_print.specs.Texts.{Adds};
 
 use crate::output::PIECE;
 use crate::runs::RunFault;
-use jsonl::Channel;
 use memchr::memchr;
+use programs::Channel;
 use simd_json::{Buffers, Error, ErrorType, Tape, fill_tape};
 use simd_json_parts::charutils::is_blank;
-use simd_json_print::document::{Level, put_compact_within};
+use simd_json_print::document::{Layout, Level, put};
 use simd_json_print::text::{Target, Text};
 use simd_json_stages::stage1::lengthen;
 use std::alloc::{AllocError, Allocator};
@@ -129,7 +129,7 @@ impl<'de, A: Allocator> Stream<'de, A> {
                 let nodes = self.tape.nodes();
                 let open = self.buffers.max_depth().min(nodes.len());
                 lengthen(&mut self.levels, open, Level::EMPTY)?;
-                put_compact_within(text, nodes, &mut self.levels);
+                put(text, nodes, Layout::Compact, &mut self.levels);
                 text.put(b"\n");
                 Ok(true)
             }

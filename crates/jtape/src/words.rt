@@ -1,10 +1,13 @@
 //! The program's arguments.
-ghost use Rattle.std.specs.Prelude.{◌≡◌, map, string_bytes};
-ghost use Rattle.jtape.specs.Output.{layout_of};
+ghost use Rattle.std.specs.Prelude.{◌≡◌, map, string_bytes, IfOk, IfErr, Err};
+ghost use Rattle.jtape.specs.Failures.{requested_of};
+ghost use Rattle.jtape.specs.declared.runs.Failure.TheVariants.{Usage};
 ghost use Rattle.jtape.specs.Settings.{mode_of, word_number, settings_of};
 
-use jsonl::has_digits_alone;
+use crate::runs::Failure;
+use programs::has_digits_alone;
 use simd_json::DEFAULT_MAX_DEPTH;
+use std::io;
 
 /// What is printed: of the input as one document, or in mode `Lines` of each of its lines.
 #[derive(Clone, Copy, Debug, Drop, PartialEq, Eq)]
@@ -22,27 +25,19 @@ pub enum Mode {
     Lines,
 }
 
-// How one document is printed.
-#[derive(Clone, Copy, Debug, Drop, PartialEq, Eq)]
-pub(crate) enum Layout {
-    Tape,
-    Positions,
-    Compact,
-    Pretty,
-}
-
-impl Mode {
-    // How the input is printed as one document, or `None` if each of its lines is a document.
-    pub(crate) fn layout(self) -> Option<Layout>
-        ensures { result ≡ layout_of self }
-    {
-        match self {
-            Mode::Tape => Some(Layout::Tape),
-            Mode::Positions => Some(Layout::Positions),
-            Mode::Compact => Some(Layout::Compact),
-            Mode::Pretty => Some(Layout::Pretty),
-            Mode::Lines => None,
-        }
+/// Parses the program's arguments, of which the first is its name. Returns `Usage` if they can't be
+/// read, or if [`settings`] returns `None` for the others.
+pub fn requested(arguments: io::Result<Vec<String>>) -> Result<(Mode, usize), Failure>
+    ensures requested { IfOk arguments (λ words.
+        result ≡ requested_of (map string_bytes words.items)) }
+    ensures unread { IfErr arguments (λ _. result ≡ Err Usage) }
+{
+    match arguments {
+        Ok(words) => words
+            .get(1..)
+            .and_then(|words| settings(words))
+            .ok_or(Failure::Usage),
+        Err(_) => Err(Failure::Usage),
     }
 }
 

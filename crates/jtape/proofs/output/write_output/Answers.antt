@@ -9,9 +9,9 @@ returns-clause-all g c =
     let within = ap (λ buffers. buffers.limit) c.empty-buffers.ensures in
     let parse = subst (λ limit. IsParse input limit 0 None c.in_ok-tape.tape.nodes c.to_tape_with_buffers.new.buffers.index.listed)
     within c.in_ok-tape.ensures.parse in
-    let out = parsed-output c.args.layout input c.args.depth _ _ _ parse in
+    let out = parsed-output c.args.mode input c.args.depth _ _ _ parse in
     all-written c.print.result (c.print.new.writer.failed ≡ false) _ _ _ _ out.3 c.print.ensures.sound
-    (c.print.ensures.all out.0 input (c.nodes-nodes.ensures ∙ out.1) (c.structural_indexes-structural_indexes.ensures ∙ out.2))
+    (c.print.ensures.all out.0 input (c.nodes-nodes.ensures ∙ out.1) (out.2))
 
 pub returns-clause-begun : goal.returns-clause-begun
 returns-clause-begun g c =
@@ -19,6 +19,6 @@ returns-clause-begun g c =
     let within = ap (λ buffers. buffers.limit) c.empty-buffers.ensures in
     let parse = subst (λ limit. IsParse input limit 0 None c.in_ok-tape.tape.nodes c.to_tape_with_buffers.new.buffers.index.listed)
     within c.in_ok-tape.ensures.parse in
-    let out = parsed-output c.args.layout input c.args.depth _ _ _ parse in
+    let out = parsed-output c.args.mode input c.args.depth _ _ _ parse in
     begun-written c.print.result (c.print.new.writer.failed ≡ true) _ _ _ _ out.3 c.print.ensures.fault
-    (c.print.ensures.begun out.0 input (c.nodes-nodes.ensures ∙ out.1) (c.structural_indexes-structural_indexes.ensures ∙ out.2))
+    (c.print.ensures.begun out.0 input (c.nodes-nodes.ensures ∙ out.1) (out.2))

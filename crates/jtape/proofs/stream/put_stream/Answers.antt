@@ -1,6 +1,6 @@
 use Rattle.std.proofs.Common.{◌∙◌, sym}
 use Rattle.std.proofs.lemmas.Result.{err_from_is_err_and}
-use Rattle.jsonl.proofs.Pieces.{found-cut, not_found-last}
+use Rattle.programs.proofs.Pieces.{found-cut, not_found-last}
 use Rattle.jtape.proofs.Streams.{none-done, one-more, all-put, others-lost, stops-before, stops-at}
 use Rattle.jtape.proofs.stream.put_stream.Goals as goal
 

@@ -1,5 +1,4 @@
-use Rattle.std.proofs.Common.{rules, ap}
-use Rattle.std.specs.Prelude.{Some}
+use Rattle.std.proofs.Common.{rules, ap, Some}
 use Rattle.simd_json_print.specs.Texts.{TargetState}
 use Rattle.jtape.specs.Pieces.{pieces, pieces_text}
 use Rattle.jtape.proofs.Streams.{stream-returned, stream-written, stream-stopped, stream-begun}

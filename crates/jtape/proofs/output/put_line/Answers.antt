@@ -3,7 +3,7 @@ use Rattle.simd_json_parts.specs.Nodes.{item_of}
 use Rattle.simd_json_parts.specs.Printed.{escaped_byte, quoted}
 use Rattle.simd_json_print.proofs.Texts.{adds-is}
 use Rattle.jtape.specs.Lines.{node_line}
-use Rattle.jtape.proofs.lines.put_line.Goals as goal
+use Rattle.jtape.proofs.output.put_line.Goals as goal
 
 pub returns-in-String : goal.returns-in-String
 unfolding quoted

@@ -3,7 +3,7 @@ use Rattle.std.proofs.lemmas.List.{get_or_default}
 use Rattle.jtape.specs.Lines.{number_line}
 use Rattle.simd_json_print.proofs.Texts.{adds-is, adds-none}
 use Rattle.jtape.proofs.Given.{adds-more, adds-all, adds-others}
-use Rattle.jtape.proofs.positions.put_positions.Goals as goal
+use Rattle.jtape.proofs.output.put_positions.Goals as goal
 
 pub loop-position-init : goal.loop-position-init
 loop-position-init g c = adds-none _ _

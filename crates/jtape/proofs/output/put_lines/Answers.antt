@@ -7,7 +7,7 @@ use Rattle.jtape.specs.Lines.{node_line}
 use Rattle.simd_json_print.proofs.FlatMaps.{flat_map-map}
 use Rattle.simd_json_print.proofs.Texts.{adds-is, adds-none}
 use Rattle.jtape.proofs.Given.{adds-more, adds-all, adds-others}
-use Rattle.jtape.proofs.lines.put_lines.Goals as goal
+use Rattle.jtape.proofs.output.put_lines.Goals as goal
 
 pub loop-node-init : goal.loop-node-init
 loop-node-init g c = adds-none _ _

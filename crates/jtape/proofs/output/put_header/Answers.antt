@@ -3,7 +3,7 @@ use Rattle.std.specs.Fmt.{decimal}
 use Rattle.simd_json_parts.specs.Bytes.{line_feed}
 use Rattle.simd_json_print.proofs.Texts.{adds-is, adds-then}
 use Rattle.jtape.specs.Lines.{header_text}
-use Rattle.jtape.proofs.lines.put_header.Goals as goal
+use Rattle.jtape.proofs.output.put_header.Goals as goal
 
 pub returns : goal.returns
 returns g c =

@@ -3,7 +3,7 @@ use Rattle.simd_json_parts.specs.Bytes.{line_feed}
 use Rattle.simd_json_parts.specs.Nodes.{item_of}
 use Rattle.simd_json_print.proofs.Texts.{adds-is}
 use Rattle.jtape.specs.Lines.{node_line}
-use Rattle.jtape.proofs.lines.put_other.Goals as goal
+use Rattle.jtape.proofs.output.put_other.Goals as goal
 
 pub returns-in-Decimal : goal.returns-in-Decimal
 returns-in-Decimal g c =
