@@ -1,6 +1,4 @@
 mod Characters
-mod Opened
-mod Puts
 mod Shown
 mod Streams
 mod Texts

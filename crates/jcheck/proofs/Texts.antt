@@ -1,41 +1,15 @@
--- The texts of a report, as they are formatted.
-use Rattle.std.proofs.Common.{◌≡◌, ◌∙◌, ap, ℕ, ◌-◌, ◌/◌, List, [], ◌∷◌, ◌++◌, take, drop, length, min, false, Option}
+-- The text around a place, as it is formatted.
+use Rattle.std.proofs.Common.{◌≡◌, ◌∙◌, ap, ℕ, ◌-◌, ◌/◌, List, [], ◌∷◌, ◌++◌, take, drop, length, min, false}
 use Rattle.std.proofs.Common.{append_assoc}
-use Rattle.std.specs.Prelude.{codes}
-use Rattle.std.specs.Fmt.{decimal}
 use Rattle.std.specs.List.{after_last, before_first, repeat}
 use Rattle.std.specs.Str.{chars}
 use Rattle.std.proofs.lemmas.List.{drop_min, take_min}
 use Rattle.jcheck.specs.Excerpts.{caret, characters, end_text, excerpt, front_text, indent}
 use Rattle.jcheck.specs.Excerpts.{line_from}
-use Rattle.jcheck.specs.Reports.{words_of}
 use Rattle.jcheck.specs.declared.excerpt.Style.{Style}
 use Rattle.simd_json_check.specs.Locations.{is_line_feed, line_before}
-use Rattle.jcheck.specs.Messages.{message_text}
-use Rattle.jcheck.specs.declared.message.Opening.{Opening}
-use Rattle.simd_json_check.specs.declared.location.Location.{Location}
-use Rattle.simd_json_check.specs.declared.location.reason.Reason.{Reason}
 use Rattle.simd_json_parts.specs.Bytes.{line_feed, space}
-use Rattle.simd_json_parts.specs.ErrorKinds.{kind_text}
-use Rattle.simd_json_parts.specs.declared.error.ErrorType.{ErrorType}
 use Rattle.unicode_width.specs.Width.{str_width}
-
-abbrev pub formatted : List ℕ → ℕ → ℕ → Reason → Option Opening → ErrorType → ℕ → List ℕ
-formatted file line column reason opening kind byte =
-    file ++ (codes ":" ++ (decimal line ++ (codes ":" ++ (decimal column ++ (codes ": " ++ (message_text reason opening
-    ++ (codes " [" ++ (kind_text kind ++ (codes " at byte " ++ (decimal byte ++ (codes "]" ++ (line_feed ∷ []))))))))))))
-
-words-laid-out : (file : List ℕ) (line byte : ℕ) (l : Location) (opening : Option Opening) (kind : ErrorType)
-    → formatted file line l.column l.reason opening kind byte ≡ words_of file line byte l opening kind ++ line_feed ∷ []
-words-laid-out file line byte l opening kind = simp append_assoc
-
-pub words-is : (file : List ℕ) (line byte : ℕ) (l : Location) (column : ℕ) (reason : Reason) (opening : Option Opening) (kind : ErrorType)
-    → column ≡ l.column → reason ≡ l.reason
-    → formatted file line column reason opening kind byte ≡ words_of file line byte l opening kind ++ line_feed ∷ []
-words-is file line byte l column reason opening kind column_is reason_is =
-    ap (λ n. formatted file line n reason opening kind byte) column_is
-    ∙ ap (λ r. formatted file line l.column r opening kind byte) reason_is
-    ∙ words-laid-out file line byte l opening kind
 
 excerpt-laid-out : (end front spaces mark : List ℕ)
     → end ++ (front ++ (line_feed ∷ (spaces ++ (mark ++ (line_feed ∷ [])))))

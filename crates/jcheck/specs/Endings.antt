@@ -4,7 +4,7 @@ use Rattle.jcheck.specs.Failures.{has_closed}
 use Rattle.jcheck.specs.declared.failure.Failure.{Failure}
 use Rattle.jcheck.specs.declared.report.Ended.{Ended}
 use Rattle.jcheck.specs.declared.report.Ended.TheVariants.{Clean, Rejected, Failed}
-use Rattle.jsonl.specs.Turns.{HasRunEach}
+use Rattle.programs.specs.Turns.{HasRunEach}
 
 abbrev pub ended_status : Ended → ℕ
 ended_status Clean = 0

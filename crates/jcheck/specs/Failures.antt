@@ -5,7 +5,7 @@ use Rattle.std.specs.declared.io.Error.{Error}
 use Rattle.std.specs.declared.io.ErrorKind.TheVariants.{OutOfMemory}
 use Rattle.jcheck.specs.declared.failure.Failure.{Failure}
 use Rattle.jcheck.specs.declared.failure.Failure.TheVariants.{Input, Output}
-use Rattle.jsonl.specs.Statuses.{is_pipe}
+use Rattle.programs.specs.Statuses.{is_pipe}
 
 abbrev pub error_of : Failure → Error
 error_of (Input e) = e

@@ -3,51 +3,41 @@ use Rattle.std.specs.Prelude.{ℕ, ◌+◌, ◌-◌, ◌^◌, min, List, [], ◌
 use Rattle.std.specs.Prelude.{if◌then◌else◌}
 use Rattle.std.specs.Fmt.{decimal}
 use Rattle.jcheck.specs.Excerpts.{excerpt}
-use Rattle.jcheck.specs.Messages.{message_text, opening_of}
-use Rattle.jcheck.specs.declared.message.Opening.{Opening}
-use Rattle.simd_json_check.specs.Reasons.{found_in}
+use Rattle.simd_json_check.specs.Messages.{kind_words, location_text}
+use Rattle.simd_json_check.specs.Reasons.{found_in, location_in}
 use Rattle.jcheck.specs.declared.excerpt.Style.{Style}
-use Rattle.jsonl.specs.Rejections.{shown_kind}
 use Rattle.simd_json_parts.specs.Pieces.{is_blank}
 use Rattle.simd_json_check.specs.declared.location.Location.{Location}
 use Rattle.simd_json_parts.specs.Bytes.{line_feed}
-use Rattle.simd_json_parts.specs.ErrorKinds.{kind_text}
-use Rattle.simd_json_parts.specs.declared.error.ErrorType.{ErrorType}
-
--- FILE:LINE:COLUMN: REASON [KIND at byte BYTE]
-abbrev pub words_of : List ℕ → ℕ → ℕ → Location → Option Opening → ErrorType → List ℕ
-words_of file line byte l opening kind =
-    file ++ codes ":" ++ decimal line ++ codes ":" ++ decimal l.column ++ codes ": " ++ message_text l.reason opening
-    ++ codes " [" ++ kind_text kind ++ codes " at byte " ++ decimal byte ++ codes "]"
-
-abbrev pub words : List ℕ → ℕ → ℕ → ℕ → List ℕ → Location → List ℕ
-words file limit line byte checked l =
-    words_of file line byte l (opening_of limit line checked l) (shown_kind l.reason l.error.error)
-
--- of an error at this line and byte of its file: the words, and the text around it in the bytes that were checked
-abbrev pub report : List ℕ → Style → ℕ → ℕ → ℕ → List ℕ → Location → List ℕ
-report file style limit line byte checked l = words file limit line byte checked l ++ (line_feed ∷ []) ++ excerpt style checked l.byte
-
--- ---- of an input that is one document
-
-abbrev pub whole_text : List ℕ → Style → ℕ → List ℕ → Option Location → List ℕ
-whole_text file style limit input None = []
-whole_text file style limit input (Some l) = report file style limit l.line l.byte input l
-
--- ---- of lines, each a document of its own
 
 -- the place in the file, as far as 64 bits hold it
 abbrev pub place_after : ℕ → ℕ → ℕ
 place_after start byte = min (start + byte) (2 ^ 64 - 1)
 
-abbrev pub found_text : List ℕ → Style → ℕ → ℕ → ℕ → List ℕ → Option Location → List ℕ
-found_text file style limit number start line None = []
-found_text file style limit number start line (Some l) = report file style limit number (place_after start l.byte) line l
+-- FILE:LINE:COLUMN: REASON [KIND at byte BYTE], of an error in a text that begins in this line and at byte `start` of its file
+abbrev pub words : List ℕ → ℕ → ℕ → Location → List ℕ
+words file line start l =
+    file ++ codes ":" ++ location_text (location_in line l) ++ codes " [" ++ kind_words l
+    ++ codes " at byte " ++ decimal (place_after start l.byte) ++ codes "]"
+
+-- the words, and the text around the place
+abbrev pub found_text : List ℕ → Style → ℕ → ℕ → List ℕ → Option Location → List ℕ
+found_text file style line start checked None = []
+found_text file style line start checked (Some l) =
+    words file line start l ++ (line_feed ∷ []) ++ excerpt style checked l.byte
+
+abbrev pub checked_text : List ℕ → Style → ℕ → ℕ → ℕ → List ℕ → List ℕ
+checked_text file style limit line start checked = found_text file style line start checked (found_in checked limit)
+
+-- of an input that is one document
+abbrev pub whole_text : List ℕ → Style → ℕ → List ℕ → List ℕ
+whole_text file style limit input = checked_text file style limit 1 0 input
+
+-- ---- of lines, each a document of its own
 
 -- of the line with this number, which begins at byte `start`
 abbrev pub line_text : List ℕ → Style → ℕ → ℕ → ℕ → List ℕ → List ℕ
-line_text file style limit number start line =
-    if is_blank line then [] else found_text file style limit number start line (found_in line limit)
+line_text file style limit number start line = if is_blank line then [] else checked_text file style limit number start line
 
 -- of that line and those after it
 abbrev pub lines_text : List ℕ → Style → ℕ → ℕ → ℕ → List (List ℕ) → List ℕ

@@ -4,8 +4,7 @@ ghost use Rattle.std.specs.List.{after_last, position_or_len};
 ghost use Rattle.jcheck.specs.Excerpts.{caret, characters, end_text, excerpt};
 ghost use Rattle.jcheck.specs.Excerpts.{first_characters, front_text, last_characters, lossy_text};
 ghost use Rattle.jcheck.specs.Excerpts.{visible};
-ghost use Rattle.simd_json_check.specs.Locations.{begins_character, column_of, is_line_feed};
-ghost use Rattle.simd_json_check.specs.Locations.{line_at};
+ghost use Rattle.simd_json_check.specs.Locations.{begins_character, is_line_feed};
 
 use std::alloc::{AllocError, Global};
 use unicode_width::UnicodeWidthStr;
@@ -135,23 +134,6 @@ fn line_end(bytes: &[u8]) -> usize
         end += 1;
     }
     end
-}
-
-/// Returns the line of a byte: from 1, by line feeds.
-pub fn line(input: &[u8], byte: usize) -> usize
-    ensures { result ≡ line_at input.now byte }
-{
-    let (before, _) = input.split_at(byte.min(input.len()));
-    before.iter().filter(|c| **c == b'\n').count() + 1
-}
-
-/// Returns the column of a byte: from 1, in characters.
-pub fn column(input: &[u8], byte: usize) -> usize
-    ensures { result ≡ column_of input.now byte }
-{
-    let (before, _) = input.split_at(byte.min(input.len()));
-    let (_, line) = before.split_at(line_start(before));
-    characters(line) + 1
 }
 
 fn characters(bytes: &[u8]) -> usize

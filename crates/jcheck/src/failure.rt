@@ -1,6 +1,6 @@
 //! Why the check of a file ended before its end.
-ghost use Rattle.std.specs.Prelude.{◌≡◌};
-ghost use Rattle.jcheck.specs.Failures.{IsShortOfMemory, has_closed, what_failed};
+ghost use Rattle.std.specs.Prelude.{◌≡◌, false, is_some};
+ghost use Rattle.jcheck.specs.Failures.{IsShortOfMemory, has_closed, is_of_output, what_failed};
 
 use std::alloc::AllocError;
 use std::fmt::{self, Display, Formatter, Write};
@@ -16,6 +16,17 @@ pub enum Failure {
 }
 
 impl Failure {
+    /// Returns why an input was not read: this error, or else an allocation failed.
+    pub fn of_input(fault: Option<io::Error>) -> Failure
+        ensures input { is_of_output result ≡ false }
+        ensures memory { is_some fault ≡ false → IsShortOfMemory result }
+    {
+        match fault {
+            Some(e) => Failure::Input(e),
+            None => Failure::from(AllocError),
+        }
+    }
+
     /// Returns whether who reads the output has closed it.
     pub fn has_closed(&self) -> bool
         ensures { result ≡ has_closed self.now }

@@ -7,11 +7,11 @@
 //! - [`asked`]: what the program's arguments ask for; [`is_colored`]: whether the caret is red.
 //!
 //! ```
-//! use jcheck::{Checker, Failure, Style, check_document};
-//! use jsonl::Channel;
+//! use jcheck::{DocumentChecker, Failure, Style, check_document};
+//! use programs::Channel;
 //!
 //! fn report(rt: &impl AllocGlobal, json: &[u8]) -> Result<Vec<u8>, Failure> {
-//!     let mut checker = Checker::new(rt.alloc(), 1024);
+//!     let mut checker = DocumentChecker::new(rt.alloc(), 1024);
 //!     let mut out = Channel::new(Vec::new(rt.alloc()));
 //!     let style = Style { width: 80, is_colored: false };
 //!     check_document(&mut checker, &mut out, "f", json, style)?;
@@ -34,13 +34,12 @@ mod checker;
 mod excerpt;
 mod failure;
 mod lines;
-mod message;
 mod options;
 mod report;
 mod terminal;
 
-pub use checker::Checker;
-pub use excerpt::Style;
+pub use checker::DocumentChecker;
+pub use excerpt::{Style, excerpt as excerpt_at};
 pub use failure::Failure;
 pub use lines::check_lines;
 pub use options::{Options, asked};

@@ -1,7 +1,7 @@
 //! What the program's arguments ask for.
 use clap::builder::ValueParser;
 use clap::{Arg, ArgAction, Command, Error, value_parser};
-use jsonl::check_digits;
+use programs::check_digits;
 use simd_json_check::DEFAULT_MAX_DEPTH;
 use std::alloc::Global;
 

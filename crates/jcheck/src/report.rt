@@ -4,20 +4,16 @@ ghost use Rattle.std.specs.Prelude.{IfOk, IfErr, OnOk, OnErr};
 ghost use Rattle.std.specs.Io.KnownBytes.{Appends};
 ghost use Rattle.jcheck.specs.Endings.{HasChecked, ended_of, is_closed, ended_status, worse};
 ghost use Rattle.simd_json_check.specs.Reasons.{found_in};
-ghost use Rattle.jcheck.specs.Reports.{report, whole_text, words_of};
-ghost use Rattle.jsonl.specs.Rejections.{shown_kind};
-ghost use Rattle.jcheck.specs.Messages.{open_at, opening_at, opening_of};
-ghost use Rattle.jcheck.specs.Writings.{HasPart, HasStopped};
+ghost use Rattle.jcheck.specs.Reports.{checked_text, whole_text, words};
+ghost use Rattle.jcheck.specs.Writings.{HasStopped};
 ghost use Rattle.simd_json_parts.specs.Bytes.{line_feed};
 ghost use Rattle.simd_json_print.specs.Texts.{Adds};
 
-use crate::checker::Checker;
-use crate::excerpt::{Style, column, excerpt, line};
+use crate::checker::DocumentChecker;
+use crate::excerpt::{Style, excerpt};
 use crate::failure::Failure;
-use crate::message::{Message, Opened, Opening};
-use jsonl::Channel;
-use simd_json_check::{ErrorType, Location, Reason};
-use simd_json_parts::charutils::byte_or_space;
+use programs::Channel;
+use simd_json_check::Location;
 use simd_json_print::text::{Target, Text};
 use std::alloc::{AllocError, Global};
 use std::io::Write;
@@ -110,7 +106,7 @@ pub fn check_each<'a, F: FnMut(&'a str) -> Result<bool, Failure>>(
 /// Fails with `Output` exactly if the writer does, and with `Input` if an allocation fails. A
 /// beginning of the output is written then.
 pub fn check_document<W: Write>(
-    checker: &mut Checker,
+    checker: &mut DocumentChecker,
     out: &mut Channel<W>,
     file: &str,
     input: &[u8],
@@ -121,172 +117,73 @@ pub fn check_document<W: Write>(
         ≡ is_none (found_in input.now checker.old.depth)) }
     ensures written { OnOk result ((out.new.failed ≡ false)
         × Appends (W.contents out.old.inner) (W.contents out.new.inner)
-        (whole_text file.now style checker.old.depth input.now
-        (found_in input.now checker.old.depth))) }
-    ensures stopped { IfErr result (λ e. HasStopped e out.new.failed
+        (whole_text file.now style checker.old.depth input.now)) }
+    ensures stopped { IfErr result (λ e. HasStopped e false out.new.failed
         (W.contents out.old.inner) (W.contents out.new.inner)
-        (whole_text file.now style checker.old.depth input.now
-        (found_in input.now checker.old.depth))) }
+        (whole_text file.now style checker.old.depth input.now)) }
     ensures depth { checker.new.depth ≡ checker.old.depth }
 {
     let mut text = Text::<Channel<W>, PIECE>::new(out);
-    let put = put_whole(checker, &mut text, file, input, style);
+    let start = FilePlace {
+        file,
+        line: 1,
+        byte: 0,
+    };
+    let put = start.check(checker, &mut text, input, style);
     text.finish().map_err(Failure::Output)?;
     Ok(put?)
 }
 
-// Appends the report on an input that is one document, and returns whether it is empty. If an
-// allocation fails, a beginning was appended.
-fn put_whole<T: Target, const SIZE: usize>(
-    checker: &mut Checker,
-    text: &mut Text<'_, T, SIZE>,
-    file: &str,
-    input: &[u8],
-    style: Style,
-) -> Result<bool, AllocError>
-    ensures clean { IfOk result (λ clean. clean
-        ≡ is_none (found_in input.now checker.old.depth)) }
-    ensures put { OnOk result (Adds T.state text.old text.new
-        (whole_text file.now style checker.old.depth input.now
-        (found_in input.now checker.old.depth))) }
-    ensures stopped { OnErr result (HasPart T.state text.old text.new
-        (whole_text file.now style checker.old.depth input.now
-        (found_in input.now checker.old.depth))) }
-    ensures depth { checker.new.depth ≡ checker.old.depth }
-{
-    let Some(location) = checker.check(input)? else {
-        return Ok(true);
-    };
-    let place = FilePlace {
-        file,
-        line: location.line(),
-        byte: location.byte(),
-    };
-    place.put(checker, text, input, &location, style)?;
-    Ok(false)
-}
-
-/// A place in a file.
+/// Where a text begins in a file.
 #[derive(Clone, Copy)]
 pub struct FilePlace<'a> {
     /// The name of the file.
     pub file: &'a str,
     /// The line, from 1.
     pub line: usize,
-    /// The byte offset in the file.
+    /// The byte offset.
     pub byte: usize,
 }
 
 impl FilePlace<'_> {
-    /// Appends the report on an error here: where and why, and the text around it in the bytes that
-    /// were checked. If an allocation fails, nothing is appended.
-    pub fn put<T: Target, const SIZE: usize>(
+    /// Checks a text that begins here as one document, and appends the report on its error: where
+    /// and why, and the text around it. Returns whether there is none. If an allocation fails,
+    /// nothing is appended.
+    pub fn check<T: Target, const SIZE: usize>(
         self,
-        checker: &mut Checker,
+        checker: &mut DocumentChecker,
         text: &mut Text<'_, T, SIZE>,
         checked: &[u8],
-        location: &Location,
         style: Style,
-    ) -> Result<(), AllocError>
+    ) -> Result<bool, AllocError>
+        ensures clean { IfOk result (λ clean. clean
+            ≡ is_none (found_in checked.now checker.old.depth)) }
         ensures put { OnOk result (Adds T.state text.old text.new
-            (report self.entry.file.now style checker.old.depth self.entry.line self.entry.byte
-            checked.now location.now)) }
+            (checked_text self.entry.file.now style checker.old.depth
+            self.entry.line self.entry.byte checked.now)) }
         ensures none { OnErr result (Adds T.state text.old text.new []) }
         ensures depth { checker.new.depth ≡ checker.old.depth }
     {
-        let opening = self.opening(checker, checked, location)?;
-        let words = self.words(checker.alloc(), location, opening)?;
+        let Some(location) = checker.check(checked)? else {
+            return Ok(true);
+        };
         let excerpt = excerpt(checker.alloc(), checked, location.byte(), style)?;
+        let words = self.words(checker.alloc(), location)?;
         text.put(words.as_bytes());
         text.put(excerpt.as_bytes());
-        Ok(())
+        Ok(false)
     }
 
-    // What is open at the place, and where it begins in the file.
-    fn opening(
-        self,
-        checker: &mut Checker,
-        checked: &[u8],
-        location: &Location,
-    ) -> Result<Option<Opening>, AllocError>
-        ensures found { IfOk result (λ opening. opening
-            ≡ opening_of checker.old.depth self.entry.line checked.now location.now) }
-        ensures depth { checker.new.depth ≡ checker.old.depth }
-    {
-        let Some(byte) = open_at(checker, checked, location)? else {
-            return Ok(None);
-        };
-        Ok(Some(self.opening_at(checked, location.byte(), byte)))
-    }
-
-    // What begins at a byte, where a later one is at this place.
-    fn opening_at(self, checked: &[u8], later: usize, byte: usize) -> Opening
-        ensures { result ≡ opening_at self.entry.line checked.now later byte }
-    {
-        let lines = line(checked, later).saturating_sub(line(checked, byte));
-        Opening {
-            opened: Opened::by(byte_or_space(checked, byte)),
-            line: self.line.saturating_sub(lines),
-            column: column(checked, byte),
-        }
-    }
-
-    // Where and why, as one line.
-    fn words(
-        self,
-        alloc: Global,
-        location: &Location,
-        opening: Option<Opening>,
-    ) -> Result<String, AllocError>
+    // Where and why, as one line, where the location is in a text that begins here.
+    fn words(self, alloc: Global, location: Location) -> Result<String, AllocError>
         ensures { IfOk result (λ text. string_bytes text
-            ≡ words_of self.entry.file.now self.entry.line self.entry.byte location.now opening
-            (shown_kind location.now.reason location.now.error.error) ++ line_feed ∷ []) }
-    {
-        match location.reason() {
-            Reason::MoreText => self.words_of(alloc, location, opening, &ErrorType::TrailingData),
-            _ => self.words_of(alloc, location, opening, location.error().error()),
-        }
-    }
-
-    // The same with the kind that is shown.
-    fn words_of(
-        self,
-        alloc: Global,
-        location: &Location,
-        opening: Option<Opening>,
-        kind: &ErrorType,
-    ) -> Result<String, AllocError>
-        ensures { IfOk result (λ text. string_bytes text
-            ≡ words_of self.entry.file.now self.entry.line self.entry.byte
-            location.now opening kind.now
+            ≡ words self.entry.file.now self.entry.line self.entry.byte location
             ++ line_feed ∷ []) }
     {
         let FilePlace { file, line, byte } = self;
-        let column = location.column();
-        let reason = location.reason();
-        let message = Message { reason, opening };
-        format!(in alloc; "{file}:{line}:{column}: {message} [{kind} at byte {byte}]\n")
-    }
-}
-
-// The first byte of what is open at the place of an error: of the string that holds a control
-// character, or of the last bracket that is not closed where the input ends.
-fn open_at(
-    checker: &mut Checker,
-    checked: &[u8],
-    location: &Location,
-) -> Result<Option<usize>, AllocError>
-    ensures found { IfOk result (λ found. found
-        ≡ open_at checker.old.depth checked.now location.now.byte location.now.reason) }
-    ensures depth { checker.new.depth ≡ checker.old.depth }
-{
-    match location.reason() {
-        Reason::ControlCharacter(_) => {
-            let (before, _) = checked.split_at(location.byte().min(checked.len()));
-            let string = checker.check(before)?;
-            Ok(string.map(|string| string.byte()))
-        }
-        Reason::EndOfInput => checker.open_bracket(checked),
-        _ => Ok(None),
+        let byte = byte.saturating_add(location.byte());
+        let location = location.in_file(line);
+        let kind = location.kind();
+        format!(in alloc; "{file}:{location} [{kind} at byte {byte}]\n")
     }
 }

@@ -4,10 +4,12 @@
 #![tactic(auto)]
 
 use jcheck::{
-    Checker, Ended, Failure, Options, Style, asked, check_document, check_each, check_lines,
-    is_colored,
+    DocumentChecker, Ended, Failure, Options, Style, asked, check_document, check_each,
+    check_lines, is_colored,
 };
-use jsonl::{Channel, arguments, fault_status, help_status, words_status};
+use programs::{
+    Channel, Retrying, Source, arguments, fault_status, help_status, shown, words_status,
+};
 use std::io::{IsTerminal, Read};
 use std::process::ExitCode;
 use std::{env, fs, io};
@@ -15,10 +17,7 @@ use std::{env, fs, io};
 fn main(rt: HostRuntime) -> ExitCode {
     let code = match arguments(&rt) {
         Ok(words) => program(&rt, words.as_slice()),
-        Err(e) => {
-            let _ = eprintln!(rt; "jcheck: {e}");
-            words_status(&e)
-        }
+        Err(e) => words_status(&rt, "jcheck", &e),
     };
     ExitCode::from(code)
 }
@@ -46,7 +45,7 @@ fn terminal_width(rt: &HostRuntime) -> usize {
 }
 
 fn check_files(rt: &HostRuntime, options: &Options<'_>) -> Ended {
-    let mut checker = Checker::new(rt.alloc(), options.depth());
+    let mut checker = DocumentChecker::new(rt.alloc(), options.depth());
     let has_lines = options.has_lines();
     let style = Style {
         width: terminal_width(rt),
@@ -57,47 +56,45 @@ fn check_files(rt: &HostRuntime, options: &Options<'_>) -> Ended {
         ),
     };
     check_each(
-        |file| {
-            let checked = check_file(rt, &mut checker, file, has_lines, style);
-            print_failure(rt, file, &checked);
-            checked
+        |file| match shown(rt.alloc(), file) {
+            Ok(name) => {
+                let checked = check_file(rt, &mut checker, file, name.as_str(), has_lines, style);
+                print_failure(rt, name.as_str(), &checked);
+                checked
+            }
+            Err(e) => {
+                let _ = eprintln!(rt; "jcheck: out of memory");
+                Err(Failure::from(e))
+            }
         },
         options.files(),
     )
 }
 
 // Who has closed the output has had enough of it.
-fn print_failure(rt: &HostRuntime, file: &str, checked: &Result<bool, Failure>) {
+fn print_failure(rt: &HostRuntime, name: &str, checked: &Result<bool, Failure>) {
     if let Err(failure) = checked
         && !failure.has_closed()
     {
-        let _ = eprintln!(rt; "jcheck: {}: {failure}", failure.what(file));
+        let _ = eprintln!(rt; "jcheck: {}: {failure}", failure.what(name));
     }
 }
 
 fn check_file(
     rt: &HostRuntime,
-    checker: &mut Checker,
+    checker: &mut DocumentChecker,
     file: &str,
+    name: &str,
     has_lines: bool,
     style: Style,
 ) -> Result<bool, Failure> {
-    let mut out = Channel::new(io::writer(rt));
+    let mut out = Channel::new(Retrying::new(io::writer(rt)));
     if !has_lines {
         let input = read_input(rt, file).map_err(Failure::Input)?;
-        return check_document(checker, &mut out, file, input.as_slice(), style);
+        return check_document(checker, &mut out, name, input.as_slice(), style);
     }
-    if file == "-" {
-        return check_lines(
-            checker,
-            &mut Channel::new(rt.reader()),
-            &mut out,
-            file,
-            style,
-        );
-    }
-    let reader = fs::File::open(rt, file).map_err(Failure::Input)?;
-    check_lines(checker, &mut Channel::new(reader), &mut out, file, style)
+    let mut reader = Channel::new(Source::new(rt, rt.reader(), file));
+    check_lines(checker, &mut reader, &mut out, name, style)
 }
 
 // The bytes of a file, or of standard input for `-`.

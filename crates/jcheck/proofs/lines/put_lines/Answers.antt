@@ -1,86 +1,108 @@
-use Rattle.std.proofs.Common.{◌∙◌, ◌+◌, [], ap, arith, drop, length, refl, sym}
+use Rattle.std.proofs.Common.{◌∙◌, ◌+◌, ◌≤◌, ◌^◌, ◌-◌, [], arith, refl, rules, subst, sym}
+use Rattle.std.proofs.KnownBytes.{Consumes-nil}
+use Rattle.std.proofs.lemmas.Bool.{false≢true}
 use Rattle.std.proofs.lemmas.Result.{err_from_is_err_and}
-use Rattle.jcheck.proofs.Puts.{all-put, and-true, clean-more, line-done, none-done, others-lost, part-put}
+use Rattle.jcheck.specs.Writings.{TakesLine}
+use Rattle.jcheck.proofs.Streams.{AreDone, all-done, block-done, end-stopped, line-bound, line-done, line-stopped, none-done, others-lost}
+use Rattle.jcheck.proofs.Streams.{reading-stopped}
+use Rattle.programs.specs.Lines.{Moves}
 use Rattle.jcheck.proofs.lines.put_lines.Goals as goal
-use Rattle.jsonl.proofs.Pieces.{found-cut, not_found-last}
-use Rattle.jcheck.specs.Reports.{is_clean_line, lines_text}
-use Rattle.simd_json_parts.specs.Pieces.{pieces}
-use Rattle.std.specs.List.{list_all}
+use Rattle.jcheck.proofs.lines.put_lines.Goals.{in-Line+in_ok-put-in-Line, in-Block}
 
-pub loop-end-init : goal.loop-end-init
-loop-end-init g c =
-    record { depth = refl; file = refl; line = omega arith; byte = refl; count = refl; done = none-done _ _ _; clean = refl }
-
-pub returns-in_err-clean-2-clause-stopped : goal.returns-in_err-clean-2-clause-stopped
-returns-in_err-clean-2-clause-stopped g c =
-    let p = err_from_is_err_and c.from_residual-in_err-clean-2.result c.from_residual-in_err-clean-2.ensures.1 in
-    rw p.1 (part-put c.loop-end.invariant.done c.in_err-clean-2.ensures.none)
+pub loop-init : goal.loop-init
+loop-init g c =
+    let start = c.new-reports.ensures.start in
+    let first = g.R.Read.remaining c.args.reader.now.inner in
+    record {
+      depth = refl;
+      file = c.new-reports.ensures.file;
+      style = c.new-reports.ensures.style;
+      reader = c.requires;
+      done = subst (λ lines. AreDone c.args.file.now c.args.style c.args.checker.now.depth g.T.Target.state c.args.text.now (2 ^ 64 - 1)
+          first c.args.text.now c.new-reports.result lines c.new-line.result.items first) (sym c.new-lines.ensures)
+          (none-done c.args.file.now c.args.style c.args.checker.now.depth g.T.Target.state c.args.text.now (2 ^ 64 - 1) first
+          c.new-reports.result c.new-line.result.items start.0 start.1 start.2);
+    }
 
 pub returns-then-has_failed-clause-put : goal.returns-then-has_failed-clause-put
 returns-then-has_failed-clause-put g c =
-    let split = c.split_at in
-    let line = split.result.0.now in
-    let after = split.result.1.now in
-    let rest = c.loop-end.rest.now in
-    let whole =
-    lines_text c.args.start.file.now c.args.style c.args.checker.now.depth c.args.start.line c.args.start.byte (pieces c.args.input.now) in
-    let cut = found-cut rest line after (drop 1 after) c.in-Some.end c.in-Some.ensures split.ensures.front split.ensures.back refl in
-    let done =
-    line-done c.args.start.file.now c.loop-end.place.file.now c.args.style c.args.checker.now.depth c.loop-end.checker.depth
-    c.loop-end.place.line c.loop-end.place.byte (c.loop-end.place.line + 1) (c.loop-end.place.byte + length line + 1) line
-    (pieces (drop 1 after)) (pieces rest) {whole = whole}
-    c.loop-end.invariant.file c.loop-end.invariant.depth cut refl refl c.loop-end.invariant.done
-    c.in_ok-clean.ensures.put in
-    others-lost {whole = whole} (sym c.has_failed.ensures ∙ c.if-has_failed.true) done
+    others-lost _ _ _ _ _ _ _ c.loop.invariant.done c.loop.reports.all_clean (sym c.has_failed.ensures ∙ c.if-has_failed.true)
+    c.loop.invariant.reader
 
-pub loop-end-preserved : goal.loop-end-preserved
-loop-end-preserved g c =
-    let split = c.split_at in
-    let line = split.result.0.now in
-    let more = c.split_at-in-Some.result.1.now in
-    let rest = c.loop-end.rest.now in
-    let limit = c.args.checker.now.depth in
-    let cut =
-    found-cut rest line split.result.1.now more c.in-Some.end c.in-Some.ensures split.ensures.front split.ensures.back
-    c.split_at-in-Some.ensures.back in
-    let put = c.in_ok-clean.ensures in
-    let whole = lines_text c.args.start.file.now c.args.style limit c.args.start.line c.args.start.byte (pieces c.args.input.now) in
-    let clean = list_all (is_clean_line limit) (pieces c.args.input.now) in
-    record {
-      depth = put.depth ∙ c.loop-end.invariant.depth;
-      file = c.loop-end.invariant.file;
-      count = omega (arith, c.loop-end.invariant.count, ap length cut);
-      line = omega (arith, c.loop-end.invariant.line, split.ensures.back_len, c.split_at-in-Some.ensures.back_len);
-      byte = omega (arith, c.loop-end.invariant.byte, split.ensures.back_len, c.split_at-in-Some.ensures.back_len);
-      done =
-          line-done c.args.start.file.now c.loop-end.place.file.now c.args.style limit c.loop-end.checker.depth
-          c.loop-end.place.line c.loop-end.place.byte _ _ line (pieces more) (pieces rest) {whole = whole} c.loop-end.invariant.file
-          c.loop-end.invariant.depth cut refl (omega (arith, split.ensures.front_len)) c.loop-end.invariant.done put.put;
-      clean =
-          clean-more limit c.loop-end.checker.depth c.loop-end.clean c.in_ok-clean.field-0 line (pieces more) (pieces rest)
-          {whole = clean} c.loop-end.invariant.depth cut put.clean c.loop-end.invariant.clean;
-    }
+pub next-requires : goal.next-requires
+next-requires g c = c.loop.invariant.reader
 
-pub returns-clause-clean : goal.returns-clause-clean
-returns-clause-clean g c _ =
-    let rest = c.loop-end.rest.now in
-    let clean = list_all (is_clean_line c.args.checker.now.depth) (pieces c.args.input.now) in
-    let last = not_found-last rest c.in_default.ensures in (
-      sym (and-true _)
-          ∙ clean-more c.args.checker.now.depth c.loop-end.checker.depth c.loop-end.clean c.in_ok-clean-2.field-0 rest []
-          (pieces rest) {whole = clean} c.loop-end.invariant.depth last c.in_ok-clean-2.ensures.clean
-          c.loop-end.invariant.clean,
-      omega (arith, c.loop-end.invariant.count, ap length last),
-    )
+pub returns-in-Err-clause-stopped : goal.returns-in-Err-clause-stopped
+returns-in-Err-clause-stopped g c =
+    let failed = c.in-Err.ensures.moves in
+    reading-stopped _ _ _ _ _ _ _ c.loop.invariant.done (failed.1, failed.2) (λ _. sym c.has_failed.ensures ∙ c.if-has_failed.false)
+    c.of_input.ensures.input (λ read. c.of_input.ensures.memory (c.fault.ensures ∙ read))
 
-pub returns-clause-put : goal.returns-clause-put
-returns-clause-put g c =
-    let rest = c.loop-end.rest.now in
-    let whole =
-    lines_text c.args.start.file.now c.args.style c.args.checker.now.depth c.args.start.line c.args.start.byte (pieces c.args.input.now) in
-    all-put {whole = whole}
-    (line-done c.args.start.file.now c.loop-end.place.file.now c.args.style c.args.checker.now.depth c.loop-end.checker.depth
-    c.loop-end.place.line c.loop-end.place.byte (c.loop-end.place.line + 1) (c.loop-end.place.byte + length rest + 1) rest [] (pieces rest)
-    {whole = whole} c.loop-end.invariant.file c.loop-end.invariant.depth
-    (not_found-last rest c.in_default.ensures) refl refl c.loop-end.invariant.done
-    c.in_ok-clean-2.ensures.put)
+pub put-requires : goal.put-requires
+put-requires g c =
+    let bound : c.loop.reports.place.line ≤ c.loop.reports.place.byte + 1 = line-bound _ _ _ _ _ _ _ c.loop.invariant.done in
+    search (rules, bound)
+
+pub returns-in_err-put-in-Line-clause-stopped : goal.returns-in_err-put-in-Line-clause-stopped
+returns-in_err-put-in-Line-clause-stopped g c =
+    let p = err_from_is_err_and c.from_residual.result c.from_residual.ensures.1 in
+    let moves = subst (Moves c.loop.lines c.next.new.self c.loop.line.items c.next.new.line.items (g.R.Read.remaining c.loop.reader.inner)
+    (g.R.Read.remaining c.next.new.reader.inner)) c.in-Line.is c.in-Ok.ensures.moves.1 in
+    rw p.1 (line-stopped _ _ _ _ _ _ _ c.loop.invariant.done moves c.in_err-put-in-Line.ensures.none c.in-Ok.ensures.moves.0 p.2)
+
+pub put-requires-in-End : goal.put-requires-in-End
+put-requires-in-End g c =
+    let bound : c.loop.reports.place.line ≤ c.loop.reports.place.byte + 1 = line-bound _ _ _ _ _ _ _ c.loop.invariant.done in
+    search (rules, bound)
+
+pub returns-in_err-put-in-End-clause-stopped : goal.returns-in_err-put-in-End-clause-stopped
+returns-in_err-put-in-End-clause-stopped g c =
+    let p = err_from_is_err_and c.from_residual-in_err-put-in-End.result c.from_residual-in_err-put-in-End.ensures.1 in
+    let moves = subst (Moves c.loop.lines c.next.new.self c.loop.line.items c.next.new.line.items (g.R.Read.remaining c.loop.reader.inner)
+    (g.R.Read.remaining c.next.new.reader.inner)) c.in-End.is c.in-Ok.ensures.moves.1 in
+    rw p.1 (end-stopped _ _ _ _ _ _ _ c.loop.invariant.done c.next.new.self moves c.in_err-put-in-End.ensures.none
+    c.in-Ok.ensures.moves.0 p.2)
+
+pub returns-in-End-clause-put : goal.returns-in-End-clause-put
+returns-in-End-clause-put g c =
+    let moves = subst (Moves c.loop.lines c.next.new.self c.loop.line.items c.next.new.line.items (g.R.Read.remaining c.loop.reader.inner)
+    (g.R.Read.remaining c.next.new.reader.inner)) c.in-End.is c.in-Ok.ensures.moves.1 in
+    let taken = subst (TakesLine g.T.Target.state c.loop.text c.put-in-End.new.text c.loop.checker.depth c.loop.reports
+    c.put-in-End.new.self) c.as_slice-in-End.ensures.value c.in_ok-put-in-End.ensures.taken in
+    all-done _ _ _ _ _ _ _ c.loop.invariant.done c.loop.invariant.file c.loop.invariant.style c.loop.invariant.depth
+    (omega (arith, c.as_slice-in-End.ensures.len)) taken c.next.new.self moves c.in-Ok.ensures.moves.0
+
+pub loop-preserved : goal.loop-preserved
+loop-preserved g c =
+    elim c.match-event.branch [
+      | in-Line+in_ok-put-in-Line v ↦
+          let moves =
+          subst (Moves c.loop.lines c.next.new.self c.loop.line.items c.next.new.line.items (g.R.Read.remaining c.loop.reader.inner)
+          (g.R.Read.remaining c.next.new.reader.inner)) v.in-Line.is c.in-Ok.ensures.moves.1 in
+          let taken = subst (TakesLine g.T.Target.state c.loop.text v.put.new.text c.loop.checker.depth c.loop.reports v.put.new.self)
+          v.as_slice.ensures.value v.in_ok-put-in-Line.ensures.taken in
+          rw (v.checker-is, v.text-is, v.reports-is) (record {
+            depth = v.in_ok-put-in-Line.ensures.depth ∙ c.loop.invariant.depth;
+            file = v.in_ok-put-in-Line.ensures.file ∙ c.loop.invariant.file;
+            style = v.in_ok-put-in-Line.ensures.style ∙ c.loop.invariant.style;
+            reader = c.in-Ok.ensures.moves.0;
+            done = line-done _ _ _ _ _ _ _ c.loop.invariant.done c.loop.invariant.file c.loop.invariant.style c.loop.invariant.depth
+                (omega (arith, v.as_slice.ensures.len)) taken c.next.new.line.items moves;
+          })
+      | in-Block v ↦
+          let moves =
+          subst (Moves c.loop.lines c.next.new.self c.loop.line.items c.next.new.line.items (g.R.Read.remaining c.loop.reader.inner)
+          (g.R.Read.remaining c.next.new.reader.inner)) v.in-Block.is c.in-Ok.ensures.moves.1 in
+          rw (v.checker-is, v.text-is, v.reports-is) (record {
+            depth = c.loop.invariant.depth;
+            file = c.loop.invariant.file;
+            style = c.loop.invariant.style;
+            reader = c.in-Ok.ensures.moves.0;
+            done = block-done _ _ _ _ _ _ _ c.loop.invariant.done moves v.flush.ensures.sent;
+          })
+    ]
+
+pub returns-clause-stopped : goal.returns-clause-stopped
+returns-clause-stopped g c =
+    reading-stopped _ _ _ _ _ _ _ c.loop.invariant.done ([], Consumes-nil _)
+    (λ read. absurd (false≢true (sym c.loop.invariant.reader ∙ read))) c.from.ensures.0 (λ _. c.from.ensures)

@@ -2,7 +2,7 @@ use Rattle.std.proofs.Common.{◌∙◌, [], ap, arith, of_calls, sym, Bor, List
 use Rattle.std.proofs.Math.ListN.{drop_of_length-le}
 use Rattle.jcheck.specs.Endings.{ended_after, is_closed, worse}
 use Rattle.jcheck.specs.declared.report.Ended.TheVariants.{Clean}
-use Rattle.jsonl.proofs.Turns.{at-close, at-end, cut-at, one-more}
+use Rattle.programs.proofs.Turns.{at-close, at-end, cut-at, one-more}
 use Rattle.jcheck.proofs.report.check_each.Goals as goal
 
 pub loop-file-preserved : goal.loop-file-preserved

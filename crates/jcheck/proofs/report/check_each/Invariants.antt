@@ -1,7 +1,7 @@
 use Rattle.std.proofs.Common.{drop}
 use Rattle.jcheck.specs.Endings.{ended_after, is_closed}
 use Rattle.jcheck.specs.declared.report.Ended.TheVariants.{Clean}
-use Rattle.jsonl.proofs.Turns.{GoesOn}
+use Rattle.programs.proofs.Turns.{GoesOn}
 use Rattle.jcheck.proofs.report.check_each.Given as goal
 
 abbrev pub invariant-loop-file : goal.invariant-loop-file
