@@ -1,6 +1,6 @@
 -- The compact text of an array is that of its elements, with commas between them.
 use Rattle.std.proofs.Common.{◌≡◌, ◌∙◌, ap, sym, refl, ℕ, suc, List, [], ◌∷◌, ◌++◌, append_assoc, false, flat_map}
-use Rattle.jsonl.specs.Cells.{after_mark, cells}
+use Rattle.programs.specs.Cells.{after_mark, cells}
 use Rattle.simd_json_parts.specs.Bytes.{comma, left_bracket, left_brace, right_bracket, right_brace}
 use Rattle.simd_json_parts.specs.Document.{Document, null, boolean, integer, decimal, string, array, object, Elements}
 use Rattle.simd_json_parts.specs.Document.{no_elements, element, Members, no_members, member}

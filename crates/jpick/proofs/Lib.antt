@@ -1,4 +1,3 @@
-mod Answered
 mod Appended
 mod Arrays
 mod Begun

@@ -2,13 +2,14 @@
 use Rattle.std.proofs.Common.{◌≡◌, ◌∙◌, ap, refl, sym, subst, inl, inr, ℕ, List, [], ◌∷◌, ◌++◌, true, false, Option, Ok}
 use Rattle.std.proofs.KnownBytes.{Appends-nil, Appends-trans}
 use Rattle.std.specs.Io.KnownBytes.{Appends, Consumes, IsAtEnd}
-use Rattle.jsonl.specs.Failures.{Begins}
-use Rattle.jsonl.specs.Lines.{Cut, Moves, folded, kept}
-use Rattle.jsonl.specs.Ports.{Watched}
-use Rattle.jsonl.specs.declared.lines.Step.TheVariants.{Line, Block, End}
-use Rattle.jsonl.proofs.Folds.{begins-all, begins-lines, begins-more, begins-then, folded-last}
-use Rattle.jsonl.proofs.Reading
-use Rattle.jsonl.proofs.Reading.{HasFirst, at-block, at-end, at-line, first-but-last, first-more, first-now}
+use Rattle.programs.specs.Failures.{Begins}
+use Rattle.programs.specs.Lines.{Cut, Moves, folded, kept}
+use Rattle.programs.specs.Ports.{Watched}
+use Rattle.programs.specs.declared.lines.Event.TheVariants.{Line, Block, End}
+use Rattle.programs.proofs.Begins.{begins-all, begins-more, begins-then}
+use Rattle.programs.proofs.Folds.{begins-lines, folded-last}
+use Rattle.programs.proofs.Reading
+use Rattle.programs.proofs.Reading.{HasFirst, at-block, at-end, at-line, first-but-last, first-more, first-now}
 use Rattle.jpick.specs.Picked.{Picked, no_line, picked_lines, with_line}
 use Rattle.jpick.specs.Runs.{HasBegun, HasPicked, IsStart, IsTaken, Shows, Writes}
 use Rattle.jpick.specs.declared.fields.Wanted.{Wanted}

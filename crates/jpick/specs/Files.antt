@@ -1,9 +1,9 @@
 -- How the program ends after runs over files.
-use Rattle.std.specs.Prelude.{ℕ, max, List, Bool, true, false, Result, Err}
-use Rattle.jsonl.specs.Failures.{run_status}
-use Rattle.jsonl.specs.Turns.{HasRunEach}
-use Rattle.jsonl.specs.declared.failure.Failure.{Failure}
-use Rattle.jsonl.specs.declared.failure.Failure.TheVariants.{Closed}
+use Rattle.std.specs.Prelude.{ℕ, max, List, Bool, true, false, not, ◌&&◌, if◌then◌else◌, Result, Err}
+use Rattle.programs.specs.Failures.{run_status}
+use Rattle.programs.specs.Turns.{HasRunEach}
+use Rattle.programs.specs.declared.failure.Failure.{Failure}
+use Rattle.programs.specs.declared.failure.Failure.TheVariants.{Closed}
 
 -- nobody reads the output any more
 abbrev pub skips_files : Result Bool Failure → Bool
@@ -16,3 +16,7 @@ status_after status r = max status (run_status r)
 -- The files had runs in turn, up to the first after which nobody reads the output any more, and the status is the greatest of them.
 abbrev pub HasPickedEach : {S X : Type 0} → (S → X → Result Bool Failure → S → Type 0) → S → List X → ℕ → Type 0
 HasPickedEach step s files status = HasRunEach step skips_files status_after 0 s files status
+
+-- at least 1 if rows are needed, and none was written
+abbrev pub status_by_rows : ℕ → Bool → Bool → ℕ
+status_by_rows status needs has = if needs && not has then max status 1 else status

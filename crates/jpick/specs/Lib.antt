@@ -1,5 +1,6 @@
 pub mod Asked
 pub mod Files
+pub mod Hints
 pub mod Picked
 pub mod Queries
 pub mod Rows

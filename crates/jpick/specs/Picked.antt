@@ -1,15 +1,15 @@
 -- What is picked of a stream of lines, and how each rejected line is named.
-use Rattle.std.specs.Prelude.{ℕ, List, [], ◌∷◌, ◌++◌, codes, length, nat_lt, Bool, true, false, not, ◌&&◌, ◌==◌}
-use Rattle.std.specs.Prelude.{Option, None, Some, is_some, Result, Ok, Err, if◌then◌else◌}
-use Rattle.simd_json_parts.specs.Pieces.{pieces, is_blank}
-use Rattle.simd_json_parts.specs.Answer.{answer}
+use Rattle.std.specs.Prelude.{ℕ, List, [], ◌∷◌, ◌++◌, codes, Bool, true, false, not, ◌&&◌, ◌==◌}
+use Rattle.std.specs.Prelude.{Option, None, Some, is_some, if◌then◌else◌}
+use Rattle.simd_json_parts.specs.Pieces.{pieces}
 use Rattle.simd_json_parts.specs.Bytes.{line_feed}
 use Rattle.simd_json_parts.specs.Document.{Document}
 use Rattle.simd_json_parts.specs.declared.error.Error.{Error}
 use Rattle.simd_json_parts.specs.declared.error.ErrorType.{ErrorType}
 use Rattle.simd_json_parts.specs.declared.error.ErrorType.TheVariants.{Syntax}
-use Rattle.jsonl.specs.Lines.{folded}
-use Rattle.jsonl.specs.Rejections.{one_more, rejection_words}
+use Rattle.programs.specs.Lines.{folded}
+use Rattle.jsonl.specs.Records.{Outcome, blank, value, rejected, outcome_of_line, outcome_of_text}
+use Rattle.programs.specs.Rejections.{one_more, rejection_words}
 use Rattle.jpick.specs.Rows.{document_rows, is_picked}
 use Rattle.jpick.specs.declared.fields.Wanted.{Wanted}
 
@@ -64,16 +64,14 @@ rows_of w d = if is_picked w d then document_rows w d else []
 abbrev pub with_value : Wanted → Picked → Document → Picked
 with_value w r d = record r { rows = r.rows ++ rows_of w d }
 
-abbrev pub with_answer : Wanted → List ℕ → Picked → List ℕ → Result Document Error → Picked
-with_answer w file r line (Ok d) = with_value w r d
-with_answer w file r line (Err e) = with_rejection w file r line (Some e)
+abbrev pub with_outcome : Wanted → List ℕ → Picked → List ℕ → Outcome → Picked
+with_outcome w file r line blank = r
+with_outcome w file r line (value d) = with_value w r d
+with_outcome w file r line (rejected error) = with_rejection w file r line error
 
 -- A line is rejected if it is longer than this or no JSON text. One that is empty, or whitespace alone, is passed over.
 abbrev pub with_line : Wanted → List ℕ → Picked → List ℕ → Picked
-with_line w file r line =
-    if nat_lt w.longest (length line) then with_rejection w file (next r) line None
-    else if is_blank line then next r
-    else with_answer w file (next r) line (answer line w.depth)
+with_line w file r line = with_outcome w file (next r) line (outcome_of_line w.longest w.depth line)
 
 -- of the lines of an input: of the pieces between its line feeds
 abbrev pub picked_lines : Wanted → List ℕ → List ℕ → Picked
@@ -81,7 +79,7 @@ picked_lines w file input = folded (with_line w file) no_line (pieces input)
 
 -- of an input that is one document
 abbrev pub picked_document : Wanted → List ℕ → List ℕ → Picked
-picked_document w file input = with_answer w file (next no_line) input (answer input w.depth)
+picked_document w file input = with_outcome w file (next no_line) input (outcome_of_text w.depth input)
 
 abbrev pub picked_of : Wanted → List ℕ → List ℕ → Picked
 picked_of w file = if w.is_document then picked_document w file else picked_lines w file

@@ -1,13 +1,11 @@
 -- What queries select of a document.
-use Rattle.std.specs.Prelude.{ℕ, ◌-◌, ◌^◌, min, List, [], ◌∷◌, Bool, true, false, not, ◌&&◌, nat_le, Option, None, Some, if◌then◌else◌}
+use Rattle.std.specs.Prelude.{ℕ, List, [], ◌∷◌, length, Bool, true, false, not, ◌&&◌, nat_le, Option, None, Some}
 use Rattle.std.specs.List.{list_all}
 use Rattle.std.specs.Option.{option_to_list}
 use Rattle.std.specs.Result.{result_ok}
-use Rattle.simd_json_parts.specs.Document.{Document, array, Elements, no_elements, element}
-use Rattle.simd_json_parts.specs.Limits.{depth}
+use Rattle.simd_json_parts.specs.Document.{Document, Elements, no_elements, element}
 use Rattle.simd_json_parts.specs.Pointed.{pointed}
 use Rattle.simd_json_path.specs.Paths.{selected}
-use Rattle.simd_json_path.specs.Room.{frames_for}
 use Rattle.simd_json_query.specs.declared.query.Choice.TheVariants as choice
 use Rattle.simd_json_query.specs.declared.query.Segment.{Segment}
 use Rattle.simd_json_query.specs.declared.query.Selector.{Selector}
@@ -48,26 +46,22 @@ abbrev pub is_singular : Query → Bool
 is_singular (query.Pointer pointer) = true
 is_singular (query.Path text path) = list_all is_singular_segment path.segments.now
 
--- ---- the value of a column: of a query that may select more than one value an array of all
+-- ---- all that a query selects, in an array
 
 abbrev pub elements_of : List Document → Elements
 elements_of [] = no_elements
 elements_of (d ∷ ds) = element d (elements_of ds)
 
-abbrev pub column : Query → Document → Option Document
-column q d = if is_singular q then first (selected_by q d) else Some (array (elements_of (selected_by q d)))
-
 -- ---- what private clauses cite: how many frames suffice
 
-abbrev pub frames_of : Query → ℕ → ℕ
-frames_of (query.Pointer pointer) levels = 0
-frames_of (query.Path text path) levels = frames_for path levels
+abbrev pub frames_of : Query → ℕ
+frames_of (query.Pointer pointer) = 0
+frames_of (query.Path text path) = length path.segments.now
 
--- so many suffice where so many arrays and objects are nested
-abbrev pub has_frames : ℕ → ℕ → Query → Bool
-has_frames count levels q = nat_le (min (frames_of q levels) (2 ^ 64 - 1)) count
+abbrev pub has_frames : ℕ → Query → Bool
+has_frames count q = nat_le (frames_of q) count
 
--- so many suffice for a document
+-- so many suffice for a document, or for the header
 abbrev pub has_room : ℕ → Option Document → Query → Bool
 has_room count None q = true
-has_room count (Some d) q = nat_le (frames_of q (depth d)) count
+has_room count (Some d) q = has_frames count q

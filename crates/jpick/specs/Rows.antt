@@ -2,14 +2,14 @@
 use Rattle.std.specs.Prelude.{ℕ, List, [], ◌∷◌, ◌++◌, flat_map, codes, Bool, true, false, ◌&&◌, ◌||◌, not, ◌==◌, if◌then◌else◌}
 use Rattle.std.specs.Prelude.{Option, None, Some, is_some, unwrap_or}
 use Rattle.std.specs.List.{list_all}
-use Rattle.jsonl.specs.Cells.{cells, raw_text, tsv_escape}
+use Rattle.programs.specs.Cells.{cells, raw_text, tsv_escape}
 use Rattle.simd_json_parts.specs.Bytes.{comma, left_bracket, line_feed, quote, right_bracket, tab}
 use Rattle.simd_json_parts.specs.Document.{Document, string, array, object}
-use Rattle.simd_json_parts.specs.Printed.{compact}
-use Rattle.simd_json_parts.specs.Views.{as_null}
+use Rattle.simd_json_parts.specs.Printed.{compact, pretty}
+use Rattle.simd_json_parts.specs.Views.{as_null, as_str}
 use Rattle.simd_json_path.specs.Filters.{holds}
 use Rattle.simd_json_path.specs.declared.filter.Filter.{Filter}
-use Rattle.jpick.specs.Queries.{column, first, is_singular, selected_by, text_of}
+use Rattle.jpick.specs.Queries.{elements_of, first, is_singular, selected_by, text_of}
 use Rattle.jpick.specs.declared.fields.Layout.{Layout}
 use Rattle.jpick.specs.declared.fields.Layout.TheVariants.{Tabs, Tsv, Csv, Json}
 use Rattle.jpick.specs.declared.fields.Wanted.{Wanted}
@@ -59,15 +59,28 @@ abbrev pub no_value_text : Layout → List ℕ
 no_value_text Json = codes "null"
 no_value_text _ = []
 
-abbrev pub value_text : Layout → Bool → Document → List ℕ
-value_text Tabs true d = raw_text d
-value_text Tabs false d = compact d
-value_text Json raw d = compact d
-value_text layout raw d = field_text layout d
+-- as JSON, over several lines or compact
+abbrev pub shown : Bool → Document → List ℕ
+shown true d = pretty d
+shown false d = compact d
+
+-- a string as its text, if that is wanted
+abbrev pub plain_text : Bool → Bool → Document → List ℕ
+plain_text true split d = unwrap_or (as_str d) (shown split d)
+plain_text false split d = shown split d
+
+abbrev pub value_text : Layout → Bool → Bool → Document → List ℕ
+value_text Tabs raw split d = plain_text raw split d
+value_text Json raw split d = compact d
+value_text layout raw split d = field_text layout d
 
 abbrev pub value_cell : Wanted → Option Document → List ℕ
 value_cell w None = no_value_text w.layout
-value_cell w (Some d) = value_text w.layout w.is_raw d
+value_cell w (Some d) = value_text w.layout w.is_raw w.is_pretty d
+
+-- the column of a query that may select more than one value: an array of all
+abbrev pub array_text : Layout → List Document → List ℕ
+array_text layout ds = value_text layout false false (array (elements_of ds))
 
 -- ---- the row
 
@@ -85,10 +98,11 @@ abbrev pub closing : Layout → List ℕ
 closing Json = right_bracket ∷ line_feed ∷ []
 closing _ = line_feed ∷ []
 
--- of a query: its column, or in the header its text, as a string
+-- of a query: the value that it selects, or all in an array; or in the header its text, as a string
 abbrev pub cell_at : Wanted → Option Document → Query → List ℕ
 cell_at w None q = field_text w.layout (string (text_of q))
-cell_at w (Some d) q = value_cell w (column q d)
+cell_at w (Some d) q =
+    if is_singular q then value_cell w (first (selected_by q d)) else array_text w.layout (selected_by q d)
 
 -- the row of a document, or the header
 abbrev pub row : Wanted → Option Document → List ℕ
@@ -97,7 +111,7 @@ row w d = opening w.layout ++ cells (mark_of w.layout) (cell_at w d) w.queries.n
 -- ---- the rows of a document: of a lone query that may select more than one value there is one for each
 
 abbrev pub value_row : Wanted → Document → List ℕ
-value_row w d = opening w.layout ++ value_text w.layout w.is_raw d ++ closing w.layout
+value_row w d = opening w.layout ++ value_text w.layout w.is_raw w.is_pretty d ++ closing w.layout
 
 abbrev pub rows_by : Wanted → List Query → Document → List ℕ
 rows_by w (q ∷ []) d = if is_singular q then row w (Some d) else flat_map (value_row w) (selected_by q d)

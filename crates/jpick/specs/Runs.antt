@@ -2,18 +2,16 @@
 use Rattle.std.specs.Prelude.{◌≡◌, ◌↔◌, ◌⊎◌, ◌++◌, ℕ, List, [], ◌∷◌, Bool, true, false, Option}
 use Rattle.std.specs.Prelude.{None, Some, OnOk, IfErr, IsErrAnd, Result, Ok, Err, MatchResult}
 use Rattle.std.specs.Io.KnownBytes.{Appends, Consumes, IsAtEnd}
-use Rattle.jsonl.specs.Failures.{Begins, SaysClosed, is_write, output_fault}
-use Rattle.jsonl.specs.Lines.{folded}
-use Rattle.jsonl.specs.Ports.{Watched}
-use Rattle.jsonl.specs.declared.failure.Failure.{Failure}
-use Rattle.jsonl.specs.declared.failure.Failure.TheVariants.{Read, Name, Closed, Resources}
+use Rattle.programs.specs.Failures.{Begins, SaysClosed, is_write, output_fault}
+use Rattle.programs.specs.Lines.{folded}
+use Rattle.jsonl.specs.Records.{Outcome}
+use Rattle.programs.specs.Ports.{Watched}
+use Rattle.programs.specs.declared.failure.Failure.{Failure}
+use Rattle.programs.specs.declared.failure.Failure.TheVariants.{Read, Name, Closed, Resources}
 use Rattle.simd_json_parts.specs.Pieces.{pieces}
-use Rattle.simd_json_parts.specs.Answer.{answer}
 use Rattle.simd_json_parts.specs.Document.{Document}
 use Rattle.simd_json_parts.specs.declared.error.Error.{Error}
-use Rattle.simd_json_parts.specs.declared.error.ErrorType.{ErrorType}
-use Rattle.simd_json_parts.specs.declared.error.ErrorType.TheVariants.{OutOfMemory}
-use Rattle.jpick.specs.Picked.{Picked, no_line, picked_document, picked_of, rejection_line, rows_of, with_answer, with_line}
+use Rattle.jpick.specs.Picked.{Picked, no_line, picked_document, picked_of, rejection_line, rows_of, with_line, with_outcome}
 use Rattle.jpick.specs.Rows.{row}
 use Rattle.jpick.specs.declared.fields.Wanted.{Wanted}
 use Rattle.jpick.specs.declared.lines.Picker.{Picker}
@@ -102,7 +100,7 @@ pub record IsRejection {A E : Type 0} (naming : E → Option (List ℕ)) (old ne
     (error : Option Error) : Type 0 where
   pub same : new ≡ record old { all_taken = false }
   pub named : Appends (naming rejections.inner) (naming rejects.inner)
-      (rejection_line old.wanted.now old.file.now old.number old.original.items error)
+      (rejection_line old.wanted.now old.file.now old.records.number old.records.text error)
 
 -- Since these rows were written, and a writer of names held these bytes: the picker has picked this of the lines so far, and the
 -- writer holds the lines that name rejected ones, too.
@@ -110,8 +108,9 @@ pub record Shows {A : Type 0} (picker : Picker A) (before : List ℕ) (held hold
     (r : Picked) : Type 0 where
   pub by : picker.wanted.now ≡ w
   pub of : picker.file.now ≡ file
-  pub limited : picker.buffers.limit ≡ w.depth
-  pub number : picker.number ≡ r.number
+  pub longest : picker.records.longest ≡ w.longest
+  pub depth : picker.records.depth ≡ w.depth
+  pub number : picker.records.number ≡ r.number
   pub all_taken : picker.all_taken ≡ r.all_taken
   pub rows : before ++ picker.rows.items ≡ r.rows
   pub rejections : Appends held holds r.rejections
@@ -133,18 +132,18 @@ BeginsLine naming old rejections rejects line =
     (before : List ℕ) (held : Option (List ℕ)) (w : Wanted) (file : List ℕ) (r : Picked)
     → Shows old before held (naming rejections.inner) w file r → Begins held (naming rejects.inner) (with_line w file r line).rejections
 
--- what was picked has become that with the answer of this text
-abbrev pub TakesText : {A E : Type 0} → (E → Option (List ℕ)) → Picker A → Picker A → Watched E → Watched E → List ℕ → Type 0
-TakesText naming old new rejections rejects text =
+-- what was picked has become that with this outcome of the last text
+abbrev pub TakesRecord : {A E : Type 0} → (E → Option (List ℕ)) → Picker A → Picker A → Watched E → Watched E → Outcome → Type 0
+TakesRecord naming old new rejections rejects outcome =
     (before : List ℕ) (held : Option (List ℕ)) (w : Wanted) (file : List ℕ) (r : Picked)
     → Shows old before held (naming rejections.inner) w file r
-    → Shows new before held (naming rejects.inner) w file (with_answer w file r text (answer text w.depth))
+    → Shows new before held (naming rejects.inner) w file (with_outcome w file r old.records.text outcome)
 
-abbrev pub BeginsText : {A E : Type 0} → (E → Option (List ℕ)) → Picker A → Watched E → Watched E → List ℕ → Type 0
-BeginsText naming old rejections rejects text =
+abbrev pub BeginsRecord : {A E : Type 0} → (E → Option (List ℕ)) → Picker A → Watched E → Watched E → Outcome → Type 0
+BeginsRecord naming old rejections rejects outcome =
     (before : List ℕ) (held : Option (List ℕ)) (w : Wanted) (file : List ℕ) (r : Picked)
     → Shows old before held (naming rejections.inner) w file r
-    → Begins held (naming rejects.inner) (with_answer w file r text (answer text w.depth)).rejections
+    → Begins held (naming rejects.inner) (with_outcome w file r old.records.text outcome).rejections
 
 -- of a document, before any line
 abbrev pub TakesDocument : {A E : Type 0} → (E → Option (List ℕ)) → Picker A → Picker A → Watched E → Watched E → List ℕ → Type 0
@@ -158,12 +157,3 @@ BeginsDocument naming old rejections rejects text =
     (before : List ℕ) (held : Option (List ℕ)) (w : Wanted) (file : List ℕ)
     → Shows old before held (naming rejections.inner) w file no_line
     → Begins held (naming rejects.inner) (picked_document w file text).rejections
-
--- an allocation failed
-abbrev pub is_memory : ErrorType → Bool
-is_memory OutOfMemory = true
-is_memory _ = false
-
-abbrev pub is_short : Option Error → Bool
-is_short None = false
-is_short (Some e) = is_memory e.error

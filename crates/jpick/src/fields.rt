@@ -1,16 +1,17 @@
 //! How a value is printed.
 ghost use Rattle.std.specs.Prelude.{◌≡◌, ◌++◌, ℕ, List, OnOk, flat_map, option_map};
-ghost use Rattle.jsonl.specs.Cells.{raw_text};
+ghost use Rattle.programs.specs.Cells.{raw_text};
 ghost use Rattle.simd_json.specs.Viewed.{doc};
 ghost use Rattle.simd_json_parts.specs.Document.{Elements, array, string};
+ghost use Rattle.simd_json_parts.specs.Printed.{compact, pretty};
 ghost use Rattle.jpick.specs.Rows.{closing, escape_of, escaped, field_text, mark_of};
-ghost use Rattle.jpick.specs.Rows.{no_value_text, opening, quote_of, value_cell, value_text};
+ghost use Rattle.jpick.specs.Rows.{no_value_text, opening, plain_text, quote_of, shown};
+ghost use Rattle.jpick.specs.Rows.{value_cell, value_text};
 
 use crate::query::Query;
-use jsonl::tsv_escape;
+use programs::tsv_escape;
 use simd_json::tape::Value;
 use simd_json_path::Filter;
-use simd_json_print::document::append_compact;
 use std::alloc::{AllocError, Allocator};
 
 /// What is picked of each line, and how it is printed.
@@ -24,6 +25,9 @@ pub struct Wanted<'a> {
     pub layout: Layout,
     /// Whether a string is printed as its text, if the layout is [`Layout::Tabs`].
     pub is_raw: bool,
+    /// Whether a value is printed over several lines, if the layout is [`Layout::Tabs`]. The array
+    /// of what a path selects, in a row of several queries, is not.
+    pub is_pretty: bool,
     /// Whether a line is skipped if a query selects nothing of it.
     pub needs_all: bool,
     /// Whether rejected lines are not named.
@@ -90,11 +94,12 @@ pub fn append_value<A: Allocator>(
     value: Value<'_, '_>,
 ) -> Result<(), AllocError>
     ensures { OnOk result (rows.new.items ≡ rows.old.items
-        ++ value_text wanted.now.layout wanted.now.is_raw (doc value.entry)) }
+        ++ value_text wanted.now.layout wanted.now.is_raw wanted.now.is_pretty
+        (doc value.entry)) }
 {
     match wanted.layout {
-        Layout::Tabs if wanted.is_raw => append_text(rows, value),
-        Layout::Tabs | Layout::Json => append_compact(rows, value.nodes()),
+        Layout::Tabs => append_plain(rows, wanted, value),
+        Layout::Json => append_compact(rows, value),
         Layout::Tsv | Layout::Csv => append_field(rows, spare, wanted.layout, value),
     }
 }
@@ -108,13 +113,70 @@ fn append_missing<A: Allocator>(rows: &mut Vec<u8, A>, layout: Layout) -> Result
     }
 }
 
+// Appends a string as its text, if that is wanted, and every other value as JSON.
+fn append_plain<A: Allocator>(
+    rows: &mut Vec<u8, A>,
+    wanted: &Wanted<'_>,
+    value: Value<'_, '_>,
+) -> Result<(), AllocError>
+    ensures { OnOk result (rows.new.items ≡ rows.old.items
+        ++ plain_text wanted.now.is_raw wanted.now.is_pretty (doc value.entry)) }
+{
+    if !wanted.is_raw {
+        return append_shown(rows, wanted.is_pretty, value);
+    }
+    match value.as_str() {
+        Some(string) => rows.extend_from_slice(string.as_bytes()),
+        None => append_shown(rows, wanted.is_pretty, value),
+    }
+}
+
+// Appends a value as JSON, over several lines or compact.
+fn append_shown<A: Allocator>(
+    rows: &mut Vec<u8, A>,
+    is_pretty: bool,
+    value: Value<'_, '_>,
+) -> Result<(), AllocError>
+    ensures { OnOk result (rows.new.items ≡ rows.old.items ++ shown is_pretty (doc value.entry)) }
+{
+    if is_pretty {
+        return append_pretty(rows, value);
+    }
+    append_compact(rows, value)
+}
+
+fn append_pretty<A: Allocator>(
+    rows: &mut Vec<u8, A>,
+    value: Value<'_, '_>,
+) -> Result<(), AllocError>
+    ensures { OnOk result (rows.new.items ≡ rows.old.items ++ pretty (doc value.entry)) }
+{
+    match value.write_pp(rows) {
+        Ok(()) => Ok(()),
+        Err(_) => Err(AllocError),
+    }
+}
+
 // Appends a string as its text, and every other value as compact JSON.
 fn append_text<A: Allocator>(rows: &mut Vec<u8, A>, value: Value<'_, '_>) -> Result<(), AllocError>
     ensures { OnOk result (rows.new.items ≡ rows.old.items ++ raw_text (doc value.entry)) }
 {
     match value.as_str() {
         Some(string) => rows.extend_from_slice(string.as_bytes()),
-        None => append_compact(rows, value.nodes()),
+        None => append_compact(rows, value),
+    }
+}
+
+/// Appends a value as compact JSON.
+pub fn append_compact<A: Allocator>(
+    rows: &mut Vec<u8, A>,
+    value: Value<'_, '_>,
+) -> Result<(), AllocError>
+    ensures { OnOk result (rows.new.items ≡ rows.old.items ++ compact (doc value.entry)) }
+{
+    match value.write(rows) {
+        Ok(()) => Ok(()),
+        Err(_) => Err(AllocError),
     }
 }
 

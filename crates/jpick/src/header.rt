@@ -4,7 +4,7 @@ ghost use Rattle.jpick.specs.Runs.{Heads};
 
 use crate::fields::Wanted;
 use crate::rows::append_row;
-use jsonl::{Channel, Failure};
+use programs::{Channel, Failure};
 use simd_json_print::text::Text;
 use std::alloc::Allocator;
 use std::io::Write;

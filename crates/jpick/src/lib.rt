@@ -3,12 +3,14 @@
 //! - [`run`]: writes rows of them for each line of a reader, or for its one document, and names
 //!   what is rejected.
 //! - [`write_header`]: writes the row of the queries before it.
-//! - [`pick_each`]: a run for each file, and the greatest status.
-//! - [`asked`]: what the program's arguments ask for.
+//! - [`pick_each`]: a run for each file, and the greatest status. [`status_by_rows`]: by whether a
+//!   row was written, too.
+//! - [`asked`]: what the program's arguments ask for. [`Hint`]: what was meant where a text is no
+//!   query.
 //!
 //! ```
 //! use jpick::{Layout, Query, Wanted, run};
-//! use jsonl::Channel;
+//! use programs::Channel;
 //!
 //! fn rows(rt: &impl AllocGlobal, lines: &[u8]) -> Vec<u8> {
 //!     let wanted = Wanted {
@@ -16,6 +18,7 @@
 //!         filters: &[],
 //!         layout: Layout::Tabs,
 //!         is_raw: false,
+//!         is_pretty: false,
 //!         needs_all: false,
 //!         is_quiet: true,
 //!         longest: 65_536,
@@ -39,6 +42,7 @@ mod conditions;
 mod fields;
 mod files;
 mod header;
+mod hints;
 mod lines;
 mod options;
 mod query;
@@ -46,8 +50,9 @@ mod rows;
 mod runs;
 
 pub use fields::{Layout, Wanted};
-pub use files::pick_each;
+pub use files::{pick_each, status_by_rows};
 pub use header::write_header;
+pub use hints::Hint;
 pub use options::{Options, Unasked, asked};
 pub use query::Query;
 pub use runs::run;

@@ -1,21 +1,20 @@
 //! The lines of an input, and what is picked of them.
 ghost use Rattle.std.specs.Prelude.{◌≡◌, ◌≤◌, IfOk, OnOk};
-ghost use Rattle.std.specs.Result.{result_err};
 ghost use Rattle.simd_json.specs.Viewed.{doc};
-ghost use Rattle.simd_json_parts.specs.Limits.{depth};
 ghost use Rattle.jpick.specs.Picked.{ends_early, is_hinted, naming_words, rejection_line};
-ghost use Rattle.jpick.specs.Runs.{BeginsDocument, BeginsLine, BeginsText, EndsRows};
-ghost use Rattle.jpick.specs.Runs.{IsRejection, IsStart, PicksValue, is_short};
-ghost use Rattle.jpick.specs.Runs.{TakesDocument, TakesLine, TakesText, Writes};
-ghost use Rattle.jsonl.specs.Failures.{Begins, Ends};
+ghost use Rattle.jpick.specs.Runs.{BeginsDocument, BeginsLine, BeginsRecord, EndsRows};
+ghost use Rattle.jpick.specs.Runs.{IsRejection, IsStart, PicksValue};
+ghost use Rattle.jpick.specs.Runs.{TakesDocument, TakesLine, TakesRecord, Writes};
+ghost use Rattle.jsonl.specs.Records.{IsWhole, outcome_read};
+ghost use Rattle.programs.specs.Failures.{Begins, Ends};
 
 use crate::conditions::meets_all;
 use crate::fields::Wanted;
 use crate::rows::append_needed;
-use jsonl::{Channel, Failure, Words, put_name, rejection_words};
+use jsonl::{Record, Records};
+use programs::{Channel, Failure, Words, put_name, rejection_words};
 use simd_json::tape::Value;
-use simd_json::{Buffers, Error, ErrorType, Tape, refill_tape, reserve};
-use simd_json_parts::charutils::is_blank;
+use simd_json::{Error, ErrorType};
 use simd_json_print::text::Text;
 use std::alloc::{AllocError, Allocator};
 use std::io::{self, Write};
@@ -27,14 +26,10 @@ type Ended = Result<(), Failure>;
 pub struct Picker<'w, 'q, 'f, A: Allocator> {
     wanted: &'w Wanted<'q>,
     file: &'f str,
-    buffers: Buffers<A>,
-    tape: Tape<'static, A>,
-    // the line that was read last, as it was before its parse
-    original: Vec<u8, A>,
+    records: Records<A>,
     spare: Vec<u8, A>,
     // what is not written yet
     rows: Vec<u8, A>,
-    number: u64,
     all_taken: bool,
 }
 
@@ -50,18 +45,12 @@ impl<'w, 'q, 'f, A: Allocator + Copy> Picker<'w, 'q, 'f, A> {
     ) -> simd_json::Result<Picker<'w, 'q, 'f, A>>
         ensures { IfOk result (IsStart wanted.now file.now) }
     {
-        let mut buffers = Buffers::empty(a, wanted.depth);
-        let mut tape = Tape::null(a)?;
-        reserve(wanted.longest, &mut buffers, &mut tape)?;
         Ok(Picker {
             wanted,
             file,
-            buffers,
-            tape,
-            original: Vec::with_capacity(a, wanted.longest)?,
+            records: Records::new(a, wanted.longest, wanted.depth)?,
             spare: Vec::with_capacity(a, wanted.longest)?,
             rows: Vec::with_capacity(a, wanted.longest.saturating_add(1 << 17))?,
-            number: 0,
             all_taken: true,
         })
     }
@@ -80,13 +69,8 @@ impl<'w, 'q, 'f, A: Allocator + Copy> Picker<'w, 'q, 'f, A> {
             (TakesLine E.contents self.old self.new err.old err.new line.old)
             (BeginsLine E.contents self.old err.old err.new line.old) result }
     {
-        self.number = self.number.saturating_add(1);
-        if line.len() > self.wanted.longest {
-            return self.reject(None, err);
-        } else if is_blank(line) {
-            return Ok(());
-        }
-        self.take_text(line, err)
+        let read = self.records.next(line)?;
+        self.take(read, err)
     }
 
     /// Takes an input that is one document, before any line.
@@ -95,41 +79,37 @@ impl<'w, 'q, 'f, A: Allocator + Copy> Picker<'w, 'q, 'f, A> {
             (TakesDocument E.contents self.old self.new err.old err.new input.old)
             (BeginsDocument E.contents self.old err.old err.new input.old) result }
     {
-        self.number = self.number.saturating_add(1);
-        self.take_text(input, err)
+        let read = self.records.next_document(input)?;
+        self.take(read, err)
     }
 
-    // Takes the text that was counted last.
-    fn take_text<E: Write>(&mut self, text: &mut [u8], err: &mut Channel<E>) -> Ended
+    // Takes the last text.
+    fn take<E: Write>(&mut self, read: Record<'_, A>, err: &mut Channel<E>) -> Ended
+        requires { IsWhole self.old.records.depth read }
         ensures { Ends err.old err.new
-            (TakesText E.contents self.old self.new err.old err.new text.old)
-            (BeginsText E.contents self.old err.old err.new text.old) result }
+            (TakesRecord E.contents self.old self.new err.old err.new (outcome_read read.entry))
+            (BeginsRecord E.contents self.old err.old err.new (outcome_read read.entry))
+            result }
     {
-        self.original.clear();
-        self.original.extend_from_slice(text)?;
-        let kept = std::mem::replace(&mut self.tape, Tape::empty(*self.rows.allocator()));
-        let (answer, tape) = refill_tape(text, &mut self.buffers, kept);
-        if is_short_of_memory(&answer) {
-            return Err(Failure::Resources);
+        match read {
+            Record::Blank => Ok(()),
+            Record::Value(tape) => {
+                self.pick(tape.as_value())?;
+                self.records.keep(tape);
+                Ok(())
+            }
+            Record::Rejected(error) => self.reject(error, err),
         }
-        match answer {
-            Ok(()) => self.pick(tape.as_value())?,
-            Err(e) => self.reject(Some(e), err)?,
-        }
-        drop(std::mem::replace(&mut self.tape, tape.reset()));
-        Ok(())
     }
 
     // Appends the rows of a value, if it is picked.
     fn pick(&mut self, value: Value<'_, '_>) -> Result<(), AllocError>
-        requires { depth (doc value) ≤ self.old.buffers.limit }
         ensures { OnOk result (PicksValue self.old self.new (doc value.entry)) }
     {
         if !meets_all(self.wanted.filters, &value) {
             return Ok(());
         }
-        let levels = self.buffers.max_depth().min(value.nodes().len());
-        append_needed(&mut self.rows, &mut self.spare, self.wanted, value, levels)?;
+        append_needed(&mut self.rows, &mut self.spare, self.wanted, value)?;
         Ok(())
     }
 
@@ -138,8 +118,8 @@ impl<'w, 'q, 'f, A: Allocator + Copy> Picker<'w, 'q, 'f, A> {
         ensures { Ends err.old err.new
             (IsRejection E.contents self.old self.new err.old err.new error)
             (Begins (E.contents err.old.inner) (E.contents err.new.inner)
-            (rejection_line self.old.wanted.now self.old.file.now self.old.number
-            self.old.original.items error)) result }
+            (rejection_line self.old.wanted.now self.old.file.now self.old.records.number
+            self.old.records.text error)) result }
     {
         self.all_taken = false;
         if self.wanted.is_quiet {
@@ -152,11 +132,12 @@ impl<'w, 'q, 'f, A: Allocator + Copy> Picker<'w, 'q, 'f, A> {
     // What names the last text after the name of the file, and that this may be a document.
     fn naming_words(&self, error: Option<Error>) -> io::Result<Words>
         ensures { IfOk result (λ words. words.items
-            ≡ naming_words self.now.wanted.now self.now.number self.now.original.items error) }
+            ≡ naming_words self.now.wanted.now self.now.records.number self.now.records.text
+            error) }
     {
         let is_hinted = self.is_hinted(&error);
-        let (number, longest) = (self.number, self.wanted.longest);
-        let mut words = rejection_words(longest, number, self.original.as_slice(), error)?;
+        let (number, longest) = (self.records.number(), self.wanted.longest);
+        let mut words = rejection_words(longest, number, self.records.text(), error)?;
         if !is_hinted {
             return Ok(words);
         }
@@ -166,9 +147,9 @@ impl<'w, 'q, 'f, A: Allocator + Copy> Picker<'w, 'q, 'f, A> {
 
     // Whether the first line ends within a document.
     fn is_hinted(&self, error: &Option<Error>) -> bool
-        ensures { result ≡ is_hinted self.now.wanted.now self.now.number error.now }
+        ensures { result ≡ is_hinted self.now.wanted.now self.now.records.number error.now }
     {
-        !self.wanted.is_document && self.number == 1 && ends_early(error)
+        !self.wanted.is_document && self.records.number() == 1 && ends_early(error)
     }
 
     /// Writes the rows that are not written yet.
@@ -197,15 +178,5 @@ fn ends_early(error: &Option<Error>) -> bool
     match error {
         Some(e) => *e.error() == ErrorType::Syntax && e.character().is_some(),
         None => false,
-    }
-}
-
-// Whether an allocation failed.
-fn is_short_of_memory(answer: &simd_json::Result<()>) -> bool
-    ensures { result ≡ is_short (result_err answer.now) }
-{
-    match answer {
-        Ok(()) => false,
-        Err(e) => *e.error() == ErrorType::OutOfMemory,
     }
 }

@@ -2,16 +2,14 @@
 ghost use Rattle.std.specs.Prelude.{◌≡◌, ◌++◌, ℕ, List, map, IfOk, OnOk};
 ghost use Rattle.std.specs.List.{AllZip};
 ghost use Rattle.clap.specs.Matches.{found_of};
-ghost use Rattle.jpick.specs.Asked.{HasOptions, IsFilterOf, IsQueryOf, files_of, flags_of};
-ghost use Rattle.jpick.specs.Asked.{is_given, layout_of, texts_of};
+ghost use Rattle.jpick.specs.Asked.{HasOptions, IsFilterOf, IsQueryOf, begins_query, files_of};
+ghost use Rattle.jpick.specs.Asked.{first_query, is_given, is_left_out, layout_of, texts_of};
 
 use crate::fields::{Layout, Wanted};
-use crate::query::{Query, frames};
-use crate::rows::MOST;
+use crate::query::Query;
 use bumpalo::Bump;
 use clap::{Arg, ArgAction, ArgMatches, Command, Error, value_parser};
-use jsonl::check_digits;
-use memchr::memmem;
+use programs::check_digits;
 use simd_json::{DEFAULT_MAX_DEPTH, Pointer};
 use simd_json_path::{Filter, Path, PathError, PathExpected};
 use std::alloc::{AllocError, AllocFailed, Global};
@@ -23,7 +21,7 @@ const LONGEST: u32 = 65_536;
 
 const QUERY_HELP: &str =
     "What is printed: a JSON Pointer (RFC 6901), as /user/name, or a JSONPath (RFC 9535), as \
-     $.users[*].name";
+     $.users[*].name; with --where or --pretty it may be left out";
 
 const AND_HELP: &str = "A further query, in a column of its own";
 
@@ -41,7 +39,11 @@ const HEADER_HELP: &str = "Print the queries in a row of their own first";
 
 const JSON_HELP: &str = "Print each row as a JSON array";
 
+const PRETTY_HELP: &str = "Print a value over several lines";
+
 const ALL_HELP: &str = "Leave out a line where a QUERY selects nothing";
+
+const STATUS_HELP: &str = "As --all; end with status 1 if no row is printed";
 
 const WHERE_HELP: &str =
     "Only lines where EXPR holds, as @.status >= 500 && @.level == \"error\" (RFC 9535)";
@@ -55,11 +57,9 @@ const DEPTH_HELP: &str = "How many containers may be open at a time [default: 10
 /// What the arguments ask for.
 #[derive(Drop)]
 pub struct Options<'a> {
-    queries: &'a [Query<'a>],
-    filters: &'a [Filter<'a>],
-    flags: Flags,
-    longest: u32,
-    depth: usize,
+    wanted: Wanted<'a>,
+    has_header: bool,
+    needs_rows: bool,
     files: Vec<&'a str>,
 }
 
@@ -73,59 +73,54 @@ impl<'a> Options<'a> {
         ensures { IfOk result (HasOptions (found_of matches.now)) }
     {
         let mut queries = Vec::new(alloc);
-        push_queries(&mut queries, arena, texts(matches, "query"))?;
+        push_queries(&mut queries, arena, first_query(matches))?;
         push_queries(&mut queries, arena, texts(matches, "and"))?;
         let filters = filters(alloc, arena, texts(matches, "where"))?;
-        let depth = matches
-            .get_one::<usize>("depth")
-            .unwrap_or(DEFAULT_MAX_DEPTH);
-        let is_deep = depth > MOST
-            && (any_descends(texts(matches, "query"))
-                || any_descends(texts(matches, "and"))
-                || any_descends(texts(matches, "where")));
-        if is_deep || frames(&queries, depth) > MOST {
-            return Err(Unasked::TooDeep(depth));
-        }
+        let needs_rows = is_given(matches, "exit-status");
         Ok(Options {
-            queries: arena.try_alloc_slice_copy(&queries)?,
-            filters: arena.try_alloc_slice_copy(&filters)?,
-            flags: Flags::of(matches),
-            longest: matches.get_one::<u32>("limit").unwrap_or(LONGEST),
-            depth,
+            wanted: Wanted {
+                queries: arena.try_alloc_slice_copy(&queries)?,
+                filters: arena.try_alloc_slice_copy(&filters)?,
+                layout: layout(
+                    is_given(matches, "tsv"),
+                    is_given(matches, "csv"),
+                    is_given(matches, "json"),
+                ),
+                is_raw: is_given(matches, "raw"),
+                is_pretty: is_given(matches, "pretty"),
+                needs_all: needs_rows || is_given(matches, "all"),
+                is_quiet: is_given(matches, "quiet"),
+                longest: matches.get_one::<u32>("limit").unwrap_or(LONGEST) as usize,
+                depth: matches
+                    .get_one::<usize>("depth")
+                    .unwrap_or(DEFAULT_MAX_DEPTH),
+                is_document: is_given(matches, "document"),
+            },
+            has_header: is_given(matches, "header"),
+            needs_rows,
             files: files(alloc, matches)?,
         })
     }
 
     /// What is picked of each line.
-    pub fn wanted(&self) -> Wanted<'a>
-        ensures queries { result.queries.now ≡ self.now.queries.now }
-        ensures filters { result.filters.now ≡ self.now.filters.now }
-        ensures layout { result.layout ≡ self.now.flags.layout }
-        ensures is_raw { result.is_raw ≡ self.now.flags.is_raw }
-        ensures needs_all { result.needs_all ≡ self.now.flags.needs_all }
-        ensures is_quiet { result.is_quiet ≡ self.now.flags.is_quiet }
-        ensures longest { result.longest ≡ self.now.longest }
-        ensures depth { result.depth ≡ self.now.depth }
-        ensures is_document { result.is_document ≡ self.now.flags.is_document }
+    pub fn wanted(&self) -> &Wanted<'a>
+        ensures { result.now ≡ self.now.wanted }
     {
-        Wanted {
-            queries: self.queries,
-            filters: self.filters,
-            layout: self.flags.layout,
-            is_raw: self.flags.is_raw,
-            needs_all: self.flags.needs_all,
-            is_quiet: self.flags.is_quiet,
-            longest: self.longest as usize,
-            depth: self.depth,
-            is_document: self.flags.is_document,
-        }
+        &self.wanted
     }
 
     /// Whether the row of the queries is printed first.
     pub fn has_header(&self) -> bool
-        ensures { result ≡ self.now.flags.has_header }
+        ensures { result ≡ self.now.has_header }
     {
-        self.flags.has_header
+        self.has_header
+    }
+
+    /// Whether the status is to say that no row was written.
+    pub fn needs_rows(&self) -> bool
+        ensures { result ≡ self.now.needs_rows }
+    {
+        self.needs_rows
     }
 
     /// The names of the files, of which there is at least one.
@@ -136,34 +131,33 @@ impl<'a> Options<'a> {
     }
 }
 
-// What the options without a value ask for.
-#[derive(Clone, Copy)]
-struct Flags {
-    layout: Layout,
-    is_raw: bool,
-    needs_all: bool,
-    is_quiet: bool,
-    has_header: bool,
-    is_document: bool,
+// Whether the query is left out: it may be where lines are filtered, or values are printed over
+// several lines. The first word is a file then, if there is one.
+fn is_left_out(matches: &ArgMatches<'_>) -> bool
+    ensures { result ≡ is_left_out (found_of matches.now) }
+{
+    let may_be = is_given(matches, "pretty") || matches.get_str("where").is_some();
+    match matches.get_str("query") {
+        Some(word) => may_be && !begins_query(word),
+        None => may_be,
+    }
 }
 
-impl Flags {
-    fn of(matches: &ArgMatches<'_>) -> Flags
-        ensures { result ≡ flags_of (found_of matches.now) }
-    {
-        Flags {
-            layout: layout(
-                is_given(matches, "tsv"),
-                is_given(matches, "csv"),
-                is_given(matches, "json"),
-            ),
-            is_raw: is_given(matches, "raw"),
-            needs_all: is_given(matches, "all"),
-            is_quiet: is_given(matches, "quiet"),
-            has_header: is_given(matches, "header"),
-            is_document: is_given(matches, "document"),
-        }
+// Whether it is empty, or begins as a JSON Pointer or a JSONPath does.
+fn begins_query(word: &str) -> bool
+    ensures { result ≡ begins_query word.now }
+{
+    matches!(word.as_bytes(), [] | [b'/' | b'$', ..])
+}
+
+// The text of the first query. One that is left out selects the whole value.
+fn first_query<'a, 'm>(matches: &'m ArgMatches<'a>) -> &'m [&'a str]
+    ensures { map (λ text. text.now) result.now ≡ first_query (found_of matches.now) }
+{
+    if is_left_out(matches) {
+        return &[""];
     }
+    texts(matches, "query")
 }
 
 // Whether the option without a value is among the words.
@@ -198,6 +192,9 @@ fn files<'a>(alloc: Global, matches: &ArgMatches<'a>) -> Result<Vec<&'a str>, Al
         map (λ name. name.now) files.items ≡ files_of (found_of matches.now)) }
 {
     let mut files = Vec::new(alloc);
+    if is_left_out(matches) {
+        files.extend_from_slice(texts(matches, "query"))?;
+    }
     files.extend_from_slice(texts(matches, "file"))?;
     if files.is_empty() {
         files.push(STANDARD_INPUT)?;
@@ -216,8 +213,6 @@ pub enum Unasked<'a> {
     NoPath(&'a str, PathError),
     /// A text that is no condition, where that is, and what it lacks there.
     NoCondition(&'a str, PathError),
-    /// This depth limit and the segments of a query with `..` are together more than 1,088.
-    TooDeep(usize),
     /// An allocation failed.
     Memory,
 }
@@ -313,18 +308,6 @@ fn filter_named<'a>(arena: &'a Bump, text: &'a str) -> Result<Filter<'a>, Unaske
     }
 }
 
-// Whether one of the texts is no JSON Pointer and has `..`: a filter's query that has it takes
-// stack for each level of a document.
-fn any_descends(texts: &[&str]) -> bool {
-    for text in texts {
-        let bytes = text.as_bytes();
-        if bytes.first() != Some(&b'/') && memmem::find(bytes, b"..").is_some() {
-            return true;
-        }
-    }
-    false
-}
-
 fn flag<'a>(alloc: Global, name: &'a str, help: &'a str) -> Arg<'a> {
     Arg::new(alloc, name)
         .long(name)
@@ -345,7 +328,8 @@ fn repeated<'a>(alloc: Global, name: &'a str, value: &'a str, help: &'a str) -> 
 fn command<'a>(alloc: Global) -> Result<Command<'a>, Error> {
     let query = Arg::new(alloc, "query")
         .value_name("QUERY")
-        .required(true)
+        .required_unless_present("where")?
+        .required_unless_present("pretty")?
         .help(QUERY_HELP);
     let files = Arg::new(alloc, "file")
         .value_name("FILE")
@@ -373,6 +357,12 @@ fn with_rows<'a>(alloc: Global, command: Command<'a>) -> Result<Command<'a>, Err
             )?
             .arg(flag(alloc, "csv", CSV_HELP).conflicts_with("json")?)?
             .arg(flag(alloc, "json", JSON_HELP))?
+            .arg(
+                flag(alloc, "pretty", PRETTY_HELP)
+                    .conflicts_with("tsv")?
+                    .conflicts_with("csv")?
+                    .conflicts_with("json")?,
+            )?
             .arg(flag(alloc, "header", HEADER_HELP).conflicts_with("json")?)?,
     )
 }
@@ -393,6 +383,7 @@ fn with_lines<'a>(alloc: Global, command: Command<'a>) -> Result<Command<'a>, Er
         command
             .arg(flag(alloc, "document", DOCUMENT_HELP).short('d'))?
             .arg(flag(alloc, "all", ALL_HELP))?
+            .arg(flag(alloc, "exit-status", STATUS_HELP).short('e'))?
             .arg(repeated(alloc, "where", "EXPR", WHERE_HELP))?
             .arg(flag(alloc, "quiet", QUIET_HELP).short('q'))?
             .arg(limit)?

@@ -1,10 +1,8 @@
 //! What selects values of a document.
-ghost use Rattle.std.specs.Prelude.{◌≡◌, ◌≤◌, ◌-◌, ◌^◌, length, min, true, option_map};
+ghost use Rattle.std.specs.Prelude.{◌≡◌, ◌≤◌, length, true, option_map};
 ghost use Rattle.std.specs.List.{list_all};
 ghost use Rattle.simd_json.specs.Viewed.{doc};
-ghost use Rattle.simd_json_parts.specs.Limits.{depth};
 ghost use Rattle.simd_json_path.specs.Paths.{selected};
-ghost use Rattle.simd_json_path.specs.Room.{frames_for};
 ghost use Rattle.jpick.specs.Queries.{first, frames_of, has_frames, is_single, is_singular};
 ghost use Rattle.jpick.specs.Queries.{is_singular_segment, selected_by, text_of};
 
@@ -42,14 +40,13 @@ impl<'a> Query<'a> {
         }
     }
 
-    // How many frames suffice for a document whose arrays and objects are nested at most `depth`
-    // deep.
-    fn frames(&self, depth: usize) -> usize
-        ensures { result ≡ min (frames_of self.now depth) (2 ^ 64 - 1) }
+    // How many frames it takes.
+    fn frames(&self) -> usize
+        ensures { result ≡ frames_of self.now }
     {
         match self {
             Query::Pointer(_) => 0,
-            Query::Path(_, path) => path.frames(depth),
+            Query::Path(_, path) => path.frames(),
         }
     }
 
@@ -59,7 +56,7 @@ impl<'a> Query<'a> {
         value: Value<'t, 'i>,
         frames: &mut [Frame<'a, 't, 'i>],
     ) -> Option<Value<'t, 'i>>
-        requires { frames_of self.now (depth (doc value)) ≤ length frames.old }
+        requires { frames_of self.now ≤ length frames.old }
         ensures { option_map doc result ≡ first (selected_by self.now (doc value.entry)) }
     {
         match self {
@@ -74,7 +71,7 @@ fn first_of<'q, 't, 'i>(
     value: Value<'t, 'i>,
     frames: &mut [Frame<'q, 't, 'i>],
 ) -> Option<Value<'t, 'i>>
-    requires { frames_for path.now (depth (doc value)) ≤ length frames.old }
+    requires { length path.now.segments.now ≤ length frames.old }
     ensures { option_map doc result ≡ first (selected path.now (doc value.entry)) }
 {
     path.select(&value, frames).next()?.ok()
@@ -107,14 +104,13 @@ fn is_single(selectors: &[Selector<'_>]) -> bool
     }
 }
 
-/// How many frames suffice for each query, in a document whose arrays and objects are nested at
-/// most `depth` deep. It is `usize::MAX` where it would be more.
-pub fn frames(queries: &[Query<'_>], depth: usize) -> usize
-    ensures { list_all (has_frames result depth) queries.now ≡ true }
+/// How many frames suffice for each query.
+pub fn frames(queries: &[Query<'_>]) -> usize
+    ensures { list_all (has_frames result) queries.now ≡ true }
 {
     let mut most = 0usize;
     for query in queries {
-        most = most.max(query.frames(depth));
+        most = most.max(query.frames());
     }
     most
 }

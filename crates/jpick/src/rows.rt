@@ -2,67 +2,55 @@
 ghost use Rattle.std.specs.Prelude.{◌≡◌, ◌≤◌, ◌∷◌, ◌++◌, [], length, true, OnOk, Some};
 ghost use Rattle.std.specs.Prelude.{flat_map, option_map};
 ghost use Rattle.std.specs.List.{list_all};
-ghost use Rattle.jsonl.specs.Cells.{after_mark, cells};
+ghost use Rattle.programs.specs.Cells.{after_mark, cells};
 ghost use Rattle.simd_json.specs.Viewed.{doc};
 ghost use Rattle.simd_json_parts.specs.Bytes.{comma};
 ghost use Rattle.simd_json_parts.specs.Document.{array};
-ghost use Rattle.simd_json_parts.specs.Limits.{depth};
 ghost use Rattle.simd_json_parts.specs.Printed.{compact};
 ghost use Rattle.simd_json_path.specs.Paths.{selected};
-ghost use Rattle.simd_json_path.specs.Room.{frames_for};
 ghost use Rattle.jpick.specs.Queries.{elements_of, has_room};
-ghost use Rattle.jpick.specs.Rows.{cell_at, document_rows, field_text, mark_of, needed_rows, row};
-ghost use Rattle.jpick.specs.Rows.{value_row, value_text};
+ghost use Rattle.jpick.specs.Rows.{array_text, cell_at, document_rows, field_text, mark_of};
+ghost use Rattle.jpick.specs.Rows.{needed_rows, row, value_row};
 
 use crate::conditions::has_needed;
-use crate::fields::{Layout, Wanted, append_cell, append_name, append_quoted, append_value, quote};
+use crate::fields::{
+    Layout, Wanted, append_cell, append_compact, append_name, append_quoted, append_value, quote,
+};
 use crate::query::{Query, are_singular, frames};
 use simd_json::tape::Value;
 use simd_json_path::{Frame, Path};
-use simd_json_print::document::append_compact;
 use std::alloc::{AllocError, Allocator};
 
-// How many frames are on the stack: for paths without `..`, for documents as most are, and for the
-// depth limit that is the default.
+// How many frames are on the stack, for queries of no more segments.
 const FEW: usize = 8;
 
-const MORE: usize = 64;
-
-pub(crate) const MOST: usize = 1088;
-
-/// Appends the rows of a value, if each query selects a value where that is needed. At most
-/// `levels` arrays and objects are nested in it. `spare` may be overwritten.
+/// Appends the rows of a value, if each query selects a value where that is needed. `spare` may be
+/// overwritten.
 ///
-/// Returns an error if an allocation fails, or if more than 1,088 frames would be needed.
-pub fn append_needed<'q, 't, 'i, A: Allocator>(
+/// Returns an error if an allocation fails.
+pub fn append_needed<'q, A: Allocator + Copy>(
     rows: &mut Vec<u8, A>,
     spare: &mut Vec<u8, A>,
     wanted: &Wanted<'q>,
-    value: Value<'t, 'i>,
-    levels: usize,
+    value: Value<'_, '_>,
 ) -> Result<(), AllocError>
-    requires { depth (doc value) ≤ levels }
     ensures { OnOk result (rows.new.items
         ≡ rows.old.items ++ needed_rows wanted.now (doc value.entry)) }
 {
-    let count = frames(wanted.queries, levels);
+    let count = frames(wanted.queries);
     if count == 0 {
         return append_within(rows, spare, &mut [], wanted, value);
     } else if count <= FEW {
         return append_by_few(rows, spare, wanted, value);
-    } else if count <= MORE {
-        return append_by_more(rows, spare, wanted, value);
-    } else if count <= MOST {
-        return append_by_most(rows, spare, wanted, value);
     }
-    Err(AllocError)
+    append_by_many(rows, spare, wanted, value, count)
 }
 
-fn append_by_few<'q, 't, 'i, A: Allocator>(
+fn append_by_few<'q, A: Allocator>(
     rows: &mut Vec<u8, A>,
     spare: &mut Vec<u8, A>,
     wanted: &Wanted<'q>,
-    value: Value<'t, 'i>,
+    value: Value<'_, '_>,
 ) -> Result<(), AllocError>
     requires { list_all (has_room 8 (Some (doc value))) wanted.now.queries.now ≡ true }
     ensures { OnOk result (rows.new.items
@@ -72,32 +60,21 @@ fn append_by_few<'q, 't, 'i, A: Allocator>(
     append_within(rows, spare, &mut frames, wanted, value)
 }
 
-fn append_by_more<'q, 't, 'i, A: Allocator>(
+fn append_by_many<'q, 't, 'i, A: Allocator + Copy>(
     rows: &mut Vec<u8, A>,
     spare: &mut Vec<u8, A>,
     wanted: &Wanted<'q>,
     value: Value<'t, 'i>,
+    count: usize,
 ) -> Result<(), AllocError>
-    requires { list_all (has_room 64 (Some (doc value))) wanted.now.queries.now ≡ true }
+    requires { list_all (has_room count (Some (doc value))) wanted.now.queries.now ≡ true }
     ensures { OnOk result (rows.new.items
         ≡ rows.old.items ++ needed_rows wanted.now (doc value.entry)) }
 {
-    let mut frames = [Frame::closed(); MORE];
-    append_within(rows, spare, &mut frames, wanted, value)
-}
-
-fn append_by_most<'q, 't, 'i, A: Allocator>(
-    rows: &mut Vec<u8, A>,
-    spare: &mut Vec<u8, A>,
-    wanted: &Wanted<'q>,
-    value: Value<'t, 'i>,
-) -> Result<(), AllocError>
-    requires { list_all (has_room 1088 (Some (doc value))) wanted.now.queries.now ≡ true }
-    ensures { OnOk result (rows.new.items
-        ≡ rows.old.items ++ needed_rows wanted.now (doc value.entry)) }
-{
-    let mut frames = [Frame::closed(); MOST];
-    append_within(rows, spare, &mut frames, wanted, value)
+    let closed: Frame<'q, 't, 'i> = Frame::closed();
+    let mut frames: Vec<Frame<'q, 't, 'i>, A> = Vec::new(*rows.allocator());
+    frames.resize(count, closed)?;
+    append_within(rows, spare, frames.as_mut_slice(), wanted, value)
 }
 
 // Appends the rows of a value in these frames.
@@ -241,7 +218,7 @@ fn append_value_rows<'q, 't, 'i, A: Allocator>(
     path: &Path<'q>,
     value: Value<'t, 'i>,
 ) -> Result<(), AllocError>
-    requires { frames_for path.now (depth (doc value)) ≤ length frames.old }
+    requires { length path.now.segments.now ≤ length frames.old }
     ensures { OnOk result (rows.new.items ≡ rows.old.items
         ++ flat_map (value_row wanted.now) (selected path.now (doc value.entry))) }
 {
@@ -282,10 +259,9 @@ fn append_array_cell<'q, 't, 'i, A: Allocator>(
     path: &Path<'q>,
     value: Value<'t, 'i>,
 ) -> Result<(), AllocError>
-    requires { frames_for path.now (depth (doc value)) ≤ length frames.old }
+    requires { length path.now.segments.now ≤ length frames.old }
     ensures { OnOk result (rows.new.items ≡ rows.old.items
-        ++ value_text wanted.now.layout wanted.now.is_raw
-        (array (elements_of (selected path.now (doc value.entry))))) }
+        ++ array_text wanted.now.layout (selected path.now (doc value.entry))) }
 {
     match wanted.layout {
         Layout::Tabs | Layout::Json => append_array(rows, frames, path, value),
@@ -304,7 +280,7 @@ fn append_array_field<'q, 't, 'i, A: Allocator>(
     path: &Path<'q>,
     value: Value<'t, 'i>,
 ) -> Result<(), AllocError>
-    requires { frames_for path.now (depth (doc value)) ≤ length frames.old }
+    requires { length path.now.segments.now ≤ length frames.old }
     ensures { OnOk result (rows.new.items ≡ rows.old.items
         ++ field_text layout (array (elements_of (selected path.now (doc value.entry))))) }
 {
@@ -320,7 +296,7 @@ fn append_array<'q, 't, 'i, A: Allocator>(
     path: &Path<'q>,
     value: Value<'t, 'i>,
 ) -> Result<(), AllocError>
-    requires { frames_for path.now (depth (doc value)) ≤ length frames.old }
+    requires { length path.now.segments.now ≤ length frames.old }
     ensures { OnOk result (rows.new.items ≡ rows.old.items
         ++ compact (array (elements_of (selected path.now (doc value.entry))))) }
 {
@@ -337,7 +313,7 @@ fn append_elements<'q, 't, 'i, A: Allocator>(
     path: &Path<'q>,
     value: Value<'t, 'i>,
 ) -> Result<(), AllocError>
-    requires { frames_for path.now (depth (doc value)) ≤ length frames.old }
+    requires { length path.now.segments.now ≤ length frames.old }
     ensures { OnOk result (rows.new.items ≡ rows.old.items
         ++ cells (comma ∷ []) compact (selected path.now (doc value.entry))) }
 {
@@ -349,7 +325,7 @@ fn append_elements<'q, 't, 'i, A: Allocator>(
             return Err(AllocError);
         };
         rows.extend_from_slice(mark)?;
-        append_compact(rows, selected.nodes())?;
+        append_compact(rows, selected)?;
         mark = b",";
     }
     Ok(())

@@ -5,7 +5,7 @@ ghost use Rattle.jpick.specs.Runs.{Picks, PicksBy};
 
 use crate::fields::Wanted;
 use crate::lines::Picker;
-use jsonl::{Channel, Failure, Lines, Step, read_all};
+use programs::{Channel, Event, Failure, Lines, read_all};
 use std::alloc::Allocator;
 use std::io::{Read, Write};
 
@@ -79,9 +79,9 @@ fn pick_lines<A: Allocator + Copy, R: Read, W: Write, E: Write>(
     let mut lines = Lines::new(wanted.longest);
     for _ in 0..u64::MAX {
         match lines.next(reader, &mut line)? {
-            Step::Line => picker.take_line(line.as_mut_slice(), rejections)?,
-            Step::Block => picker.write(out)?,
-            Step::End => {
+            Event::Line => picker.take_line(line.as_mut_slice(), rejections)?,
+            Event::Block => picker.write(out)?,
+            Event::End => {
                 picker.take_line(line.as_mut_slice(), rejections)?;
                 picker.write(out)?;
                 return Ok(picker.all_taken());

@@ -1,13 +1,14 @@
 -- What was counted of the lines of an input so far.
 use Rattle.std.proofs.Common.{◌≡◌, ◌∙◌, ap, sym, subst, ℕ, List, [], ◌∷◌, ◌++◌, Option}
 use Rattle.std.specs.Io.KnownBytes.{Consumes}
-use Rattle.jsonl.specs.Failures.{Begins}
-use Rattle.jsonl.specs.Lines.{Cut, Moves, folded, kept}
-use Rattle.jsonl.specs.Ports.{Watched}
-use Rattle.jsonl.specs.declared.lines.Step.TheVariants.{Line, Block, End}
-use Rattle.jsonl.proofs.Folds.{begins-all, begins-lines, folded-last}
-use Rattle.jsonl.proofs.Reading
-use Rattle.jsonl.proofs.Reading.{HasFirst, at-block, at-end, at-line, first-more, first-now}
+use Rattle.programs.specs.Failures.{Begins}
+use Rattle.programs.specs.Lines.{Cut, Moves, folded, kept}
+use Rattle.programs.specs.Ports.{Watched}
+use Rattle.programs.specs.declared.lines.Event.TheVariants.{Line, Block, End}
+use Rattle.programs.proofs.Begins.{begins-all}
+use Rattle.programs.proofs.Folds.{begins-lines, folded-last}
+use Rattle.programs.proofs.Reading
+use Rattle.programs.proofs.Reading.{HasFirst, at-block, at-end, at-line, first-more, first-now}
 use Rattle.log_report.specs.Report.{Report, with_counted_line, with_part}
 use Rattle.log_report.specs.Runs.{BeginsInput, BeginsCountedLine, ShowsReport, TakesInput, CountsLine}
 use Rattle.log_report.specs.declared.lines.Lines.{Lines}

@@ -5,8 +5,8 @@ use Rattle.std.proofs.Common.{get_or, Option, Some, None, Bor, Result, Ok, Err}
 use Rattle.std.proofs.lemmas.List.Concat.{flat_map-append}
 use Rattle.std.specs.Io.KnownBytes.{WriteAppends}
 use Rattle.std.specs.Prelude.{OnOk, is_some, option_map, unwrap_or}
-use Rattle.jsonl.proofs.Folds.{front-of}
-use Rattle.jsonl.proofs.Kept.{take-all, take-least}
+use Rattle.programs.proofs.Begins.{front-of}
+use Rattle.programs.proofs.Kept.{take-all, take-least}
 use Rattle.std.proofs.Math.Seq.{take-append-add, take-length}
 use Rattle.std.proofs.lemmas.Bool.{eqb-false, ltb-false, ltb-true, lt-ltb, le-ltb}
 use Rattle.std.proofs.lemmas.List.{length-take, take-append-drop, take-append-le}
@@ -15,7 +15,7 @@ use Rattle.simd_json_parts.specs.Document.{Document, null, boolean, integer, dec
 use Rattle.simd_json_parts.specs.Printed.{compact}
 use Rattle.simd_json_parts.specs.Views.{as_null, as_str}
 use Rattle.simd_json_print.proofs.FlatMaps.{flat_map-more}
-use Rattle.jsonl.specs.Cells.{tsv_escape}
+use Rattle.programs.specs.Cells.{tsv_escape}
 use Rattle.log_report.specs.Rows.{Extends, most_bytes, row_label, row_text, tsv_byte, tsv_text}
 use Rattle.log_report.specs.Table.{others}
 use Rattle.log_report.specs.declared.rows.Wanted.{Wanted}

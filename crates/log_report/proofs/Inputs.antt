@@ -1,7 +1,7 @@
 -- Inputs of which the first were read.
 use Rattle.std.proofs.Common.{◌≡◌, ◌∙◌, refl, ap, sym, subst, arith, ℕ, zero, suc, ◌<◌, List, [], ◌∷◌, ◌++◌, length, set, get_or}
 use Rattle.std.proofs.Common.{Bool, true, false, ◌||◌, Option}
-use Rattle.jsonl.specs.Ports.{Watched}
+use Rattle.programs.specs.Ports.{Watched}
 use Rattle.log_report.specs.Report.{Part, Report, report_of, with_part, with_parts}
 use Rattle.log_report.specs.Runs.{AreRead, IsInputRead, ShowsReport, has_failed}
 use Rattle.log_report.specs.declared.lines.Lines.{Lines}

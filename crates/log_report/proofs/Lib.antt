@@ -1,4 +1,3 @@
-mod Answered
 mod Begun
 mod Counting
 mod Cuts

@@ -4,7 +4,11 @@ use Rattle.std.proofs.Common.{Option, Some, None, cond, is_some, option_map}
 use Rattle.std.proofs.lemmas.Bool.{eqb-true}
 use Rattle.std.specs.List.{list_all}
 use Rattle.std.specs.Prelude.{◌==◌, ◌&&◌}
-use Rattle.log_report.specs.Asked.{is_key_or_pointer}
+use Rattle.log_report.specs.Asked.{begins_path, is_selector, selector_by, selector_of}
+use Rattle.log_report.specs.declared.rows.Selector.{Selector}
+use Rattle.log_report.specs.declared.rows.Selector.TheVariants.{Key, Pointer}
+use Rattle.simd_json_parts.specs.Bytes.{slash}
+use Rattle.std.specs.Borrow.{Bor}
 use Rattle.simd_json_parts.specs.Pointed.{is_pointer, tilde, tokens, unescaped, with_first}
 use Rattle.simd_json_parts.proofs.Pointers.Pointed.{tokens-some}
 
@@ -85,16 +89,37 @@ formed-tokens (c ∷ e ∷ t) = more-by c e t (c == tilde) refl (formed-tokens (
 formed-pointer : (p : List ℕ) → is_pointer (47 ∷ p) ≡ formed (47 ∷ p)
 formed-pointer p = sym (formed-tokens p) ∙ sym (plain 47 p refl)
 
--- ---- selectors
+-- ---- JSON Pointers
 
-pub no-byte : (s : List ℕ) → length s ≡ 0 → true ≡ is_key_or_pointer s
+pub no-byte : (s : List ℕ) → length s ≡ 0 → true ≡ is_pointer s
 no-byte [] is = refl
 no-byte (c ∷ s) is = absurd (omega (arith, is))
 
-pub key : (s : List ℕ) → 0 < length s → get_or s 0 0 ≢ 47 → true ≡ is_key_or_pointer s
-key [] some other = absurd (omega (arith, some))
-key (c ∷ s) some other = rw (ne_eqb c 47 other) refl
+pub no-slash : (s : List ℕ) → 0 < length s → get_or s 0 0 ≢ 47 → false ≡ is_pointer s
+no-slash [] some other = absurd (omega (arith, some))
+no-slash (c ∷ s) some other = rw (ne_eqb c 47 other) refl
 
-pub pointer : (s : List ℕ) → 0 < length s → get_or s 0 0 ≡ 47 → formed s ≡ is_key_or_pointer s
-pointer [] some is = absurd (omega (arith, some))
-pointer (c ∷ s) some is = subst (λ x. formed (x ∷ s) ≡ is_key_or_pointer (x ∷ s)) (sym is) (sym (formed-pointer s))
+pub slashed : (s : List ℕ) → 0 < length s → get_or s 0 0 ≡ 47 → formed s ≡ is_pointer s
+slashed [] some is = absurd (omega (arith, some))
+slashed (c ∷ s) some is = subst (λ x. formed (x ∷ s) ≡ is_pointer (x ∷ s)) (sym is) (sym (formed-pointer s))
+
+-- ---- selectors
+
+selector-by : (word : Bor (List ℕ)) (t : List ℕ) (s : Selector) → Some s ≡ selector_by word t → word.now ≡ t → is_selector s ≡ true
+selector-by word [] s is same = cc
+selector-by word (c ∷ t) s is same = elim (c == slash) as (λ b.
+    Some s ≡ (cond b (cond (is_pointer (c ∷ t)) (Some (Pointer word)) None) (cond (begins_path c) None (Some (Key word))))
+    → is_selector s ≡ true) [
+      | true ↦ elim (is_pointer (c ∷ t)) as (λ p. p ≡ is_pointer word.now → Some s ≡ cond p (Some (Pointer word)) None → is_selector s ≡ true) [
+        | true ↦ λ p h. cc
+        | false ↦ λ p h. cc
+      ] (ap is_pointer (sym same))
+      | false ↦ elim (begins_path c) as (λ p. Some s ≡ cond p None (Some (Key word)) → is_selector s ≡ true) [
+        | true ↦ λ h. cc
+        | false ↦ λ h. cc
+      ]
+    ] is
+
+-- a word that is read is no malformed pointer
+pub selector-read : (word : Bor (List ℕ)) (s : Selector) → Some s ≡ selector_of word → is_selector s ≡ true
+selector-read word s is = selector-by word word.now s is refl

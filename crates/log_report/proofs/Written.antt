@@ -1,10 +1,10 @@
 -- What a call returns that reads an input, or writes the report.
 use Rattle.std.proofs.Common.{◌≡◌, ◌∙◌, ap, refl, sym, Bool, false, true, Result, Ok, Err}
 use Rattle.std.specs.Prelude.{IsErrAnd, MatchResult}
-use Rattle.jsonl.proofs.Calls.{NamesIn}
-use Rattle.jsonl.specs.Failures.{read_fault}
-use Rattle.jsonl.specs.declared.failure.Failure.{Failure}
-use Rattle.jsonl.specs.declared.failure.Failure.TheVariants.{Closed, Resources}
+use Rattle.programs.proofs.Calls.{NamesIn}
+use Rattle.programs.specs.Failures.{read_fault}
+use Rattle.programs.specs.declared.failure.Failure.{Failure}
+use Rattle.programs.specs.declared.failure.Failure.TheVariants.{Closed, Resources}
 use Rattle.log_report.specs.Runs.{EndsInput, input_fault, report_fault}
 
 -- ---- the call that reads an input

@@ -1,15 +1,15 @@
 -- What is counted of some inputs, and how each rejected line is named.
-use Rattle.std.specs.Prelude.{ℕ, List, [], ◌∷◌, ◌++◌, codes, length, nat_lt, Bool, true, false, Option, None, Some, Result, Ok, Err}
+use Rattle.std.specs.Prelude.{ℕ, List, [], ◌∷◌, ◌++◌, codes, Bool, true, false, Option}
 use Rattle.std.specs.Prelude.{◌==◌, if◌then◌else◌}
 use Rattle.std.specs.Fmt.{decimal}
-use Rattle.simd_json_parts.specs.Pieces.{pieces, is_blank}
+use Rattle.simd_json_parts.specs.Pieces.{pieces}
 use Rattle.simd_json_stages.specs.Capacities.{default_max_depth}
-use Rattle.simd_json_parts.specs.Answer.{answer}
 use Rattle.simd_json_parts.specs.Bytes.{line_feed}
-use Rattle.simd_json_parts.specs.Document.{Document}
 use Rattle.simd_json_parts.specs.declared.error.Error.{Error}
-use Rattle.jsonl.specs.Lines.{folded}
-use Rattle.jsonl.specs.Rejections.{one_more, rejection_words}
+use Rattle.programs.specs.Lines.{folded}
+use Rattle.jsonl.specs.Records as outcome
+use Rattle.jsonl.specs.Records.{Outcome, blank, value, outcome_of_line}
+use Rattle.programs.specs.Rejections.{one_more, rejection_words}
 use Rattle.log_report.specs.Rows.{row_label}
 use Rattle.log_report.specs.Table.{Count, none_counted, counted, lines_of, others, rejected}
 use Rattle.log_report.specs.declared.rows.Wanted.{Wanted}
@@ -40,16 +40,15 @@ with_counted_rejection w file r line error =
     { all_taken = false; rejections = r.rejections ++ rejection_line w file r.number line error }
 
 -- by its row
-abbrev pub with_counted_answer : Wanted → List ℕ → Report → List ℕ → Result Document Error → Report
-with_counted_answer w file r line (Ok d) = with_text w r (row_label w d)
-with_counted_answer w file r line (Err e) = with_counted_rejection w file r line (Some e)
+abbrev pub with_counted_outcome : Wanted → List ℕ → Report → List ℕ → Outcome → Report
+with_counted_outcome w file r line blank = r
+with_counted_outcome w file r line (value d) = with_text w r (row_label w d)
+with_counted_outcome w file r line (outcome.rejected error) = with_counted_rejection w file r line error
 
 -- A line is rejected if it is longer than this or no JSON text. One that is empty, or whitespace alone, counts under nothing.
 abbrev pub with_counted_line : Wanted → List ℕ → Report → List ℕ → Report
 with_counted_line w file r line =
-    if nat_lt w.longest (length line) then with_counted_rejection w file (next r) line None
-    else if is_blank line then next r
-    else with_counted_answer w file (next r) line (answer line default_max_depth)
+    with_counted_outcome w file (next r) line (outcome_of_line w.longest default_max_depth line)
 
 -- an input: the name of its file, and its bytes
 abbrev pub Part : Type 0

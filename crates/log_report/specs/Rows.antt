@@ -1,21 +1,22 @@
 -- The row of a line: a column for each selector.
-use Rattle.std.specs.Prelude.{◌≡◌, ℕ, List, [], ◌∷◌, ◌++◌, flat_map, length, take, nat_lt, ◌==◌, if◌then◌else◌}
+use Rattle.std.specs.Prelude.{◌≡◌, ℕ, List, [], ◌∷◌, ◌++◌, flat_map, length, take, nat_lt, if◌then◌else◌}
 use Rattle.std.specs.Prelude.{Option, None, Some, is_some, unwrap_or}
-use Rattle.std.specs.Borrow.{Bor}
 use Rattle.std.specs.Result.{result_ok}
-use Rattle.jsonl.specs.Cells.{cells, raw_text, tsv_escape}
-use Rattle.simd_json_parts.specs.Bytes.{slash, tab}
+use Rattle.programs.specs.Cells.{cells, raw_text, tsv_escape}
+use Rattle.simd_json_parts.specs.Bytes.{tab}
 use Rattle.simd_json_parts.specs.Document.{Document}
 use Rattle.simd_json_parts.specs.Pointed.{pointed}
 use Rattle.simd_json_parts.specs.Printed.{compact}
 use Rattle.simd_json_parts.specs.Views.{as_null, get}
 use Rattle.log_report.specs.Table.{no_value, others}
+use Rattle.log_report.specs.declared.rows.Selector.{Selector}
+use Rattle.log_report.specs.declared.rows.Selector.TheVariants.{Key, Pointer}
 use Rattle.log_report.specs.declared.rows.Wanted.{Wanted}
 
--- the value that a selector names: by a JSON Pointer, if it begins with `/`, or else the first with this key
-abbrev pub selected : List ℕ → Document → Option Document
-selected [] d = get [] d
-selected (c ∷ s) d = if c == slash then result_ok (pointed (c ∷ s) d) else get (c ∷ s) d
+-- the value that a selector names: the first with its key, or that at its JSON Pointer
+abbrev pub selected : Selector → Document → Option Document
+selected (Key key) d = get key.now d
+selected (Pointer pointer) d = result_ok (pointed pointer.now d)
 
 -- in tab separated text
 abbrev pub tsv_byte : ℕ → List ℕ
@@ -30,8 +31,8 @@ cell w None = no_value w.is_tsv
 cell w (Some d) = if w.is_tsv then tsv_text d else compact d
 
 -- the value of a selector
-abbrev pub column : Wanted → Document → Bor (List ℕ) → List ℕ
-column w d selector = cell w (selected selector.now d)
+abbrev pub column : Wanted → Document → Selector → List ℕ
+column w d selector = cell w (selected selector d)
 
 abbrev pub row_text : Wanted → Document → List ℕ
 row_text w d = cells (tab ∷ []) (column w d) w.selectors.now

@@ -2,12 +2,11 @@
 use Rattle.std.specs.Prelude.{◌≡◌, ◌↔◌, ◌||◌, ℕ, List, [], ◌∷◌, length, map, Bool, true, false, Option}
 use Rattle.std.specs.Prelude.{OnOk, IfErr, IsErrAnd, Result, Ok, Err, MatchResult, Vec}
 use Rattle.std.specs.Io.KnownBytes.{Appends, Consumes, IsAtEnd, Keeps}
-use Rattle.jsonl.specs.Failures.{Begins, SaysClosed, is_write, name_fault, output_fault}
-use Rattle.jsonl.specs.Ports.{Watched}
-use Rattle.jsonl.specs.declared.failure.Failure.{Failure}
-use Rattle.jsonl.specs.declared.failure.Failure.TheVariants.{Read, Name, Closed, Resources}
+use Rattle.programs.specs.Failures.{Begins, SaysClosed, is_write, name_fault, output_fault}
+use Rattle.programs.specs.Ports.{Watched}
+use Rattle.programs.specs.declared.failure.Failure.{Failure}
+use Rattle.programs.specs.declared.failure.Failure.TheVariants.{Read, Name, Closed, Resources}
 use Rattle.simd_json_stages.specs.Capacities.{default_max_depth}
-use Rattle.simd_json.specs.Reserved.{IsReserved}
 use Rattle.simd_json_parts.specs.Document.{Document}
 use Rattle.simd_json_parts.specs.declared.error.Error.{Error}
 use Rattle.log_report.specs.Report.{Part, Report, no_report, notice, rejection_line, report_of, said, with_counted_line, with_part}
@@ -128,16 +127,16 @@ pub record CountsRejection {A E : Type 0} (naming : E → Option (List ℕ)) (ol
   pub counts : counts_of new ≡ counted old.wanted.now.is_tsv old.wanted.now.values 1 (rejected old.wanted.now.is_tsv) (counts_of old)
   pub same : new ≡ record old { all_taken = false; counts = new.counts }
   pub named : Appends (naming rejections.inner) (naming rejects.inner)
-      (rejection_line old.wanted.now old.file.now old.number old.original.items error)
+      (rejection_line old.wanted.now old.file.now old.records.number old.records.text error)
 
 -- Since a writer held these bytes: the counts are those of this report, and the writer holds the lines that name rejected ones, too.
 pub record ShowsReport {A : Type 0} (lines : Lines A) (held holds : Option (List ℕ)) (w : Wanted) (file : List ℕ)
     (r : Report) : Type 0 where
   pub by : lines.wanted.now ≡ w
   pub of : lines.file.now ≡ file
-  pub limited : lines.buffers.limit ≡ default_max_depth
-  pub reserved : IsReserved lines.wanted.now.longest lines.buffers lines.tape
-  pub number : lines.number ≡ r.number
+  pub longest : lines.records.longest ≡ w.longest
+  pub depth : lines.records.depth ≡ default_max_depth
+  pub number : lines.records.number ≡ r.number
   pub all_taken : lines.all_taken ≡ r.all_taken
   pub counts : counts_of lines ≡ r.counts
   pub rejections : Appends held holds r.rejections

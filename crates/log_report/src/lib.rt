@@ -4,12 +4,12 @@
 //! - [`asked`]: what the program's arguments ask for.
 //!
 //! ```
-//! use jsonl::Channel;
-//! use log_report::{Input, Wanted, run};
+//! use programs::Channel;
+//! use log_report::{Input, Selector, Wanted, run};
 //!
 //! fn report(rt: &impl AllocGlobal, lines: &[u8]) -> Vec<u8> {
 //!     let wanted = Wanted {
-//!         selectors: &["level"],
+//!         selectors: &[Selector::Key("level")],
 //!         is_tsv: false,
 //!         values: 1024,
 //!         longest: 65_536,
@@ -36,5 +36,5 @@ mod rows;
 mod runs;
 
 pub use options::{Options, asked};
-pub use rows::Wanted;
+pub use rows::{Selector, Wanted};
 pub use runs::{Input, run};

@@ -1,7 +1,8 @@
 //! The lines so far, counted in memory that is reserved at the start.
 ghost use Rattle.std.specs.Prelude.{◌≡◌, IfOk, OnOk, false};
 ghost use Rattle.log_report.specs.Report.{notice_words, rejection_line};
-ghost use Rattle.jsonl.specs.Failures.{Begins, Ends};
+ghost use Rattle.programs.specs.Failures.{Begins, Ends};
+ghost use Rattle.programs.specs.Rejections.{rejection_words};
 ghost use Rattle.log_report.specs.Runs.{AddsValue, BeginsInput, BeginsCountedLine, BeginsNotice};
 ghost use Rattle.log_report.specs.Runs.{BeginsReport, CountsMore, EndsInput, EndsReport};
 ghost use Rattle.log_report.specs.Runs.{CountsRejection, HasNoLine, Notes, Prints, TakesInput};
@@ -11,10 +12,10 @@ ghost use Rattle.simd_json.specs.Viewed.{doc};
 
 use crate::rows::{Row, Wanted, append_row};
 use indexmap::IndexMap;
-use jsonl::{Channel, Failure, Step, Words, put_name, rejection_words};
+use jsonl::{Record, Records};
+use programs::{Channel, Event, Failure, Words, put_name, rejection_words};
 use simd_json::tape::Value;
-use simd_json::{Buffers, Error, StaticNode, Tape, refill_tape, reserve};
-use simd_json_parts::charutils::is_blank;
+use simd_json::{DEFAULT_MAX_DEPTH, Error, StaticNode};
 use simd_json_print::text::Text;
 use std::alloc::{AllocError, Allocator};
 use std::hash::{BuildHasherDefault, FoldHasher};
@@ -27,11 +28,7 @@ type Ended = Result<(), Failure>;
 pub struct Lines<'k, A: Allocator> {
     wanted: &'k Wanted<'k>,
     file: &'k str,
-    buffers: Buffers<A>,
-    tape: Tape<'static, A>,
-    // the line that was read last, as it was before its parse
-    original: Vec<u8, A>,
-    number: u64,
+    records: Records<A>,
     all_taken: bool,
     counts: IndexMap<Vec<u8, A>, u64, BuildHasherDefault<FoldHasher>, A>,
 }
@@ -41,16 +38,10 @@ impl<'k, A: Allocator + Copy> Lines<'k, A> {
     pub fn new(a: A, wanted: &'k Wanted<'k>) -> simd_json::Result<Lines<'k, A>>
         ensures { IfOk result (HasNoLine wanted.now) }
     {
-        let mut buffers = Buffers::new(a, 0)?;
-        let mut tape = Tape::null(a)?;
-        reserve(wanted.longest, &mut buffers, &mut tape)?;
         let mut lines = Lines {
             wanted,
             file: "",
-            buffers,
-            tape,
-            original: Vec::with_capacity(a, wanted.longest)?,
-            number: 0,
+            records: Records::reserved(a, wanted.longest, DEFAULT_MAX_DEPTH)?,
             all_taken: true,
             counts: IndexMap::with_capacity(a, wanted.most_texts())?,
         };
@@ -85,13 +76,13 @@ impl<'k, A: Allocator + Copy> Lines<'k, A> {
             file.now) result }
     {
         self.file = file;
-        self.number = 0;
-        let mut lines = jsonl::Lines::new(self.wanted.longest);
+        self.records.restart();
+        let mut lines = programs::Lines::new(self.wanted.longest);
         for _ in 0..u64::MAX {
             match lines.next(reader, line)? {
-                Step::Line => self.count(line.as_mut_slice(), err)?,
-                Step::Block => {}
-                Step::End => return self.count(line.as_mut_slice(), err),
+                Event::Line => self.count(line.as_mut_slice(), err)?,
+                Event::Block => {}
+                Event::End => return self.count(line.as_mut_slice(), err),
             }
         }
         Err(Failure::Resources)
@@ -104,22 +95,15 @@ impl<'k, A: Allocator + Copy> Lines<'k, A> {
             (CountsLine E.contents self.old self.new err.old err.new line.old)
             (BeginsCountedLine E.contents self.old err.old err.new line.old) result }
     {
-        self.number = self.number.saturating_add(1);
-        if line.len() > self.wanted.longest {
-            return self.reject(None, err);
-        } else if is_blank(line) {
-            return Ok(());
+        match self.records.next(line)? {
+            Record::Blank => Ok(()),
+            Record::Value(tape) => {
+                self.add_value(tape.as_value())?;
+                self.records.keep(tape);
+                Ok(())
+            }
+            Record::Rejected(error) => self.reject(error, err),
         }
-        self.original.clear();
-        self.original.extend_from_slice(line)?;
-        let kept = std::mem::replace(&mut self.tape, Tape::empty(*self.counts.allocator()));
-        let (answer, tape) = refill_tape(line, &mut self.buffers, kept);
-        match answer {
-            Ok(()) => self.add_value(tape.as_value())?,
-            Err(e) => self.reject(Some(e), err)?,
-        }
-        drop(std::mem::replace(&mut self.tape, tape.reset()));
-        Ok(())
     }
 
     // Names the last line as rejected, and counts it. Without an error it is too long.
@@ -127,17 +111,27 @@ impl<'k, A: Allocator + Copy> Lines<'k, A> {
         ensures { Ends err.old err.new
             (CountsRejection E.contents self.old self.new err.old err.new error)
             (Begins (E.contents err.old.inner) (E.contents err.new.inner)
-            (rejection_line self.old.wanted.now self.old.file.now self.old.number
-            self.old.original.items error)) result }
+            (rejection_line self.old.wanted.now self.old.file.now self.old.records.number
+            self.old.records.text error)) result }
     {
-        let (longest, line) = (self.wanted.longest, self.original.as_slice());
-        let words = rejection_words(longest, self.number, line, error).map_err(
-            |_| Failure::Resources,
-        )?;
+        let words = self.naming_words(error).map_err(|_| Failure::Resources)?;
         put_name(err, self.file, words.as_slice())?;
         self.all_taken = false;
         self.add(self.wanted.rejected(), 1)?;
         Ok(())
+    }
+
+    // What names the last line after the name of the file.
+    fn naming_words(&self, error: Option<Error>) -> io::Result<Words>
+        ensures { IfOk result (λ words. words.items ≡ rejection_words self.now.wanted.now.longest
+            self.now.records.number self.now.records.text error) }
+    {
+        rejection_words(
+            self.wanted.longest,
+            self.records.number(),
+            self.records.text(),
+            error,
+        )
     }
 
     // Counts a line by the row of its value, or under `*` if that has more than 1,024 bytes.

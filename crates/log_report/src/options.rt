@@ -1,14 +1,18 @@
 //! What the program's arguments ask for.
-ghost use Rattle.std.specs.Prelude.{◌≡◌, IfOk, true};
+ghost use Rattle.std.specs.Prelude.{◌≡◌, IfErr, IfOk, OnOk, Some, true};
 ghost use Rattle.std.specs.List.{list_all};
+ghost use Rattle.std.specs.Result.{result_ok};
 ghost use Rattle.clap.specs.Kinds.{FailsBy};
-ghost use Rattle.log_report.specs.Asked.{is_key_or_pointer, is_selector, selector_faults};
+ghost use Rattle.clap.specs.Matches.{found_of};
+ghost use Rattle.simd_json_parts.specs.Pointed.{is_pointer};
+ghost use Rattle.log_report.specs.Asked.{begins_with_key, is_selector, selector_faults};
+ghost use Rattle.log_report.specs.Asked.{selector_of, unread_text};
 
-use crate::rows::Wanted;
-use clap::{Arg, ArgAction, Command, Error, value_parser};
-use jsonl::{check_digits, invalid_value};
-use simd_json_parts::pointer::{PointerExpected, is_well_formed};
-use std::alloc::Global;
+use crate::rows::{Selector, Wanted};
+use clap::{Arg, ArgAction, ArgMatches, Command, Error, value_parser};
+use programs::{check_digits, invalid_value};
+use simd_json_parts::pointer::is_well_formed;
+use std::alloc::{AllocError, Global};
 
 const STANDARD_INPUT: &str = "-";
 
@@ -16,6 +20,15 @@ const SELECTOR_HELP: &str =
     "Which value lines count by: a key, or a JSON Pointer, as /request/method";
 
 const AND_HELP: &str = "A further value that they count by, in a column of its own";
+
+const KEY_HELP: &str =
+    "The same by a key, whatever it begins with; in front of other words, these are files";
+
+// Why a word is neither a key nor a JSON Pointer.
+const NO_ESCAPE: &str = "expected 0 or 1 after each ~";
+
+const NO_SELECTOR: &str = "log_report counts by a key or a JSON Pointer: level, /level; \
+     --key takes any key";
 
 const TSV_HELP: &str = "Print tab separated text, with escapes as jq's @tsv";
 
@@ -29,7 +42,7 @@ const LONGEST_HELP: &str = "How many bytes a line may have [default: 65536]";
 /// What the arguments ask for.
 #[derive(Drop)]
 pub struct Options<'a> {
-    selectors: Vec<&'a str>,
+    selectors: Vec<Selector<'a>>,
     is_tsv: bool,
     values: u32,
     longest: usize,
@@ -54,7 +67,8 @@ impl<'a> Options<'a> {
 }
 
 /// Returns what the arguments ask for; the first word is the program's name. The error is the text
-/// of `--help` or `--version`, or says what is not understood: also a malformed JSON Pointer.
+/// of `--help` or `--version`, or says what is not understood: also a malformed JSON Pointer, and a
+/// word that looks like a path of jq or a JSONPath.
 pub fn asked<'a>(alloc: Global, words: &'a [String]) -> Result<Options<'a>, Error>
     ensures { IfOk result (λ asked. list_all is_selector asked.selectors.items ≡ true) }
 {
@@ -68,56 +82,159 @@ pub fn asked<'a>(alloc: Global, words: &'a [String]) -> Result<Options<'a>, Erro
         "--longest <BYTES>",
     )?;
     check_digits(alloc, &mut command, &matches, "values", "--values <N>")?;
-    let mut selectors = Vec::new(alloc);
-    selectors.push(matches.get_str("selector").unwrap_or(""))?;
-    selectors.extend_from_slice(matches.get_strs("and").unwrap_or_default())?;
-    check_selectors(alloc, &mut command, selectors.as_slice())?;
-    let mut files = Vec::new(alloc);
-    match matches.get_strs("file") {
-        Some(names) => files.extend_from_slice(names)?,
-        None => files.push(STANDARD_INPUT)?,
-    }
+    let selectors = selectors(alloc, &mut command, &matches)?;
     let longest = matches.get_one::<u32>("longest").unwrap_or(65_536);
     Ok(Options {
         selectors,
         is_tsv: matches.get_flag("tsv"),
         values: matches.get_one::<u32>("values").unwrap_or(1024),
         longest: longest as usize,
-        files,
+        files: files(alloc, &matches)?,
     })
 }
 
-// Checks that no selector is a malformed JSON Pointer.
-fn check_selectors(
+// What lines count by: the first word, unless it is a file, and what --and and --key add.
+fn selectors<'a>(
     alloc: Global,
     command: &mut Command<'_>,
-    selectors: &[&str],
-) -> Result<(), Error>
-    ensures { FailsBy (selector_faults selectors.now) result }
+    matches: &ArgMatches<'a>,
+) -> Result<Vec<Selector<'a>>, Error>
+    ensures { IfOk result (λ selectors. list_all is_selector selectors.items ≡ true) }
 {
-    for selector in selectors {
-        if !is_selector(*selector) {
-            let reason = format!(in alloc; "expected {}", PointerExpected::Escape)?;
-            let error = invalid_value(alloc, command, "<KEY|POINTER>", *selector, reason.as_str())?;
-            return Err(error);
+    let mut selectors = Vec::new(alloc);
+    if let Some(word) = matches.get_str("word")
+        && !begins_with_key(matches)
+    {
+        push_word(alloc, command, word, &mut selectors)?;
+    }
+    push_more(alloc, command, matches, &mut selectors)?;
+    Ok(selectors)
+}
+
+// Whether --key comes before the first word, which is a file then.
+fn begins_with_key(matches: &ArgMatches<'_>) -> bool
+    ensures { result ≡ begins_with_key (found_of matches.now) }
+{
+    match (matches.index_of("key"), matches.index_of("word")) {
+        (Some(key), Some(word)) => key < word,
+        _ => false,
+    }
+}
+
+// Appends what --and and --key add, in their order.
+fn push_more<'a>(
+    alloc: Global,
+    command: &mut Command<'_>,
+    matches: &ArgMatches<'a>,
+    selectors: &mut Vec<Selector<'a>>,
+) -> Result<(), Error>
+    ensures { list_all is_selector selectors.old.items ≡ true
+        → OnOk result (list_all is_selector selectors.new.items ≡ true) }
+{
+    let (words, keys) = (texts(matches, "and"), texts(matches, "key"));
+    let (word_places, key_places) = (places(matches, "and"), places(matches, "key"));
+    let (mut taken, mut taken_keys) = (0, 0);
+    for _ in 0..words.len().saturating_add(keys.len()) {
+        match (words.get(taken), keys.get(taken_keys)) {
+            (Some(word), key)
+                if key.is_none() || word_places.get(taken) < key_places.get(taken_keys) => {
+                taken += 1;
+                push_word(alloc, command, *word, selectors)?;
+            }
+            (_, Some(key)) => {
+                taken_keys += 1;
+                selectors.push(Selector::Key(*key))?;
+            }
+            _ => return Ok(()),
         }
     }
     Ok(())
 }
 
-// Whether it is a key, or a JSON Pointer (RFC 6901, section 3). One that begins with `/` is
-// malformed only where a `~` is followed by neither `0` nor `1`.
-fn is_selector(selector: &str) -> bool
-    ensures { result ≡ is_key_or_pointer selector.now }
+// Appends the selector of a word.
+fn push_word<'a>(
+    alloc: Global,
+    command: &mut Command<'_>,
+    word: &'a str,
+    selectors: &mut Vec<Selector<'a>>,
+) -> Result<(), Error>
+    ensures { list_all is_selector selectors.old.items ≡ true
+        → OnOk result (list_all is_selector selectors.new.items ≡ true) }
 {
-    let bytes = selector.as_bytes();
+    selectors.push(selector(alloc, command, word)?)?;
+    Ok(())
+}
+
+// The selector of a word, or the error that says what it lacks.
+fn selector<'a>(
+    alloc: Global,
+    command: &mut Command<'_>,
+    word: &'a str,
+) -> Result<Selector<'a>, Error>
+    ensures kinds { FailsBy (selector_faults word.entry) result }
+    ensures selector { IfOk result (λ selector. Some selector ≡ selector_of word.entry) }
+{
+    match Selector::of(word) {
+        Ok(selector) => Ok(selector),
+        Err(reason) => {
+            let error = invalid_value(alloc, command, "<KEY|POINTER>", word, reason)?;
+            Err(error)
+        }
+    }
+}
+
+impl<'a> Selector<'a> {
+    // The key or the JSON Pointer that a word is, or what it lacks.
+    fn of(word: &'a str) -> Result<Selector<'a>, &'static str>
+        ensures selector { result_ok result ≡ selector_of word.entry }
+        ensures reason { IfErr result (λ reason. reason.now ≡ unread_text word.now) }
+    {
+        match word.as_bytes() {
+            [b'/', ..] if is_pointer(word) => Ok(Selector::Pointer(word)),
+            [b'/', ..] => Err(NO_ESCAPE),
+            [b'$' | b'.', ..] => Err(NO_SELECTOR),
+            _ => Ok(Selector::Key(word)),
+        }
+    }
+}
+
+// Whether it is a JSON Pointer (RFC 6901, section 3). One that begins with `/` is malformed only
+// where a `~` is followed by neither `0` nor `1`.
+fn is_pointer(text: &str) -> bool
+    ensures { result ≡ is_pointer text.now }
+{
+    let bytes = text.as_bytes();
     if bytes.is_empty() {
         return true;
     }
     if bytes[0] != b'/' {
-        return true;
+        return false;
     }
     is_well_formed(bytes)
+}
+
+// The names of the files, or that of standard input where there are none. The first word is one
+// after --key.
+fn files<'a>(alloc: Global, matches: &ArgMatches<'a>) -> Result<Vec<&'a str>, AllocError> {
+    let mut files = Vec::new(alloc);
+    if begins_with_key(matches) {
+        files.extend_from_slice(texts(matches, "word"))?;
+    }
+    files.extend_from_slice(texts(matches, "file"))?;
+    if files.is_empty() {
+        files.push(STANDARD_INPUT)?;
+    }
+    Ok(files)
+}
+
+// The values of an argument, in order.
+fn texts<'a, 'm>(matches: &'m ArgMatches<'a>, name: &str) -> &'m [&'a str] {
+    matches.get_strs(name).unwrap_or_default()
+}
+
+// Where among the words they are.
+fn places<'m>(matches: &'m ArgMatches<'_>, name: &str) -> &'m [usize] {
+    matches.indices_of(name).unwrap_or_default()
 }
 
 fn command<'a>(alloc: Global) -> Result<Command<'a>, Error> {
@@ -137,13 +254,19 @@ fn command<'a>(alloc: Global) -> Result<Command<'a>, Error> {
         .action(ArgAction::Append)
         .allow_hyphen_values(true)
         .help(AND_HELP);
+    let key = Arg::new(alloc, "key")
+        .long("key")
+        .value_name("KEY")
+        .action(ArgAction::Append)
+        .allow_hyphen_values(true)
+        .help(KEY_HELP);
     let tsv = Arg::new(alloc, "tsv")
         .long("tsv")
         .action(ArgAction::SetTrue)
         .help(TSV_HELP);
-    let selector = Arg::new(alloc, "selector")
+    let word = Arg::new(alloc, "word")
         .value_name("KEY|POINTER")
-        .required(true)
+        .required_unless_present("key")?
         .help(SELECTOR_HELP);
     let files = Arg::new(alloc, "file")
         .value_name("FILE")
@@ -155,10 +278,11 @@ fn command<'a>(alloc: Global) -> Result<Command<'a>, Error> {
             .version("0.4.0")
             .about("Counts the lines of JSON Lines by their values at keys or JSON Pointers")
             .arg(and)?
+            .arg(key)?
             .arg(tsv)?
             .arg(longest)?
             .arg(values)?
-            .arg(selector)?
+            .arg(word)?
             .arg(files)?,
     )
 }

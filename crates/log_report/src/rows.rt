@@ -1,6 +1,6 @@
 //! The row of a line: a column for each value that lines count by.
 ghost use Rattle.std.specs.Prelude.{◌≡◌, ◌∷◌, [], OnOk, flat_map, option_map};
-ghost use Rattle.jsonl.specs.Cells.{after_mark};
+ghost use Rattle.programs.specs.Cells.{after_mark};
 ghost use Rattle.simd_json.specs.Viewed.{doc};
 ghost use Rattle.simd_json_parts.specs.Bytes.{tab};
 ghost use Rattle.simd_json_parts.specs.Printed.{compact};
@@ -9,7 +9,7 @@ ghost use Rattle.log_report.specs.Rows.{tsv_text};
 ghost use Rattle.log_report.specs.Table.{most_texts, no_value, others, rejected, separator};
 
 use arrayvec::ArrayVec;
-use jsonl::tsv_escape;
+use programs::tsv_escape;
 use simd_json::tape::Value;
 use std::alloc::AllocError;
 use std::io::Write;
@@ -17,11 +17,20 @@ use std::io::Write;
 /// A row of up to 1,024 bytes; one that is full is longer, and cut.
 pub type Row = ArrayVec<u8, 1025>;
 
+/// What names a value of a line.
+#[derive(Clone, Copy, Debug, PartialEq, Eq)]
+pub enum Selector<'a> {
+    /// The first value with this key of an object.
+    Key(&'a str),
+    /// The value at this JSON Pointer (RFC 6901).
+    Pointer(&'a str),
+}
+
 /// What lines count by, and how the report is written.
 #[derive(Clone, Copy)]
 pub struct Wanted<'a> {
-    /// The key, or the JSON Pointer, of each column's value.
-    pub selectors: &'a [&'a str],
+    /// What names each column's value.
+    pub selectors: &'a [Selector<'a>],
     /// Whether rows are tab separated text, and not compact JSON between tabs.
     pub is_tsv: bool,
     /// How many rows have a count of their own.
@@ -90,7 +99,7 @@ pub fn append_row(
     let Some((first, rest)) = wanted.selectors.split_first() else {
         return Ok(());
     };
-    append_cell(row, wanted, select(value, *first))?;
+    append_cell(row, wanted, select(value, first))?;
     append_others(row, wanted, value, rest)
 }
 
@@ -99,25 +108,24 @@ fn append_others(
     row: &mut Row,
     wanted: &Wanted<'_>,
     value: Value<'_, '_>,
-    selectors: &[&str],
+    selectors: &[Selector<'_>],
 ) -> Result<(), AllocError>
     ensures { OnOk result (Extends row.old.items row.new.items
         (flat_map (after_mark (tab ∷ []) (column wanted.now (doc value.entry))) selectors.now)) }
 {
     for selector in selectors {
         append(row, b"\t");
-        append_cell(row, wanted, select(value, *selector))?;
+        append_cell(row, wanted, select(value, selector))?;
     }
     Ok(())
 }
 
-// The value that a JSON Pointer names, or else the first with this key.
-fn select<'t, 'i>(value: Value<'t, 'i>, selector: &str) -> Option<Value<'t, 'i>>
+fn select<'t, 'i>(value: Value<'t, 'i>, selector: &Selector<'_>) -> Option<Value<'t, 'i>>
     ensures { option_map doc result ≡ selected selector.now (doc value.entry) }
 {
-    match selector.as_bytes() {
-        [b'/', ..] => value.pointer(selector),
-        _ => value.get(selector),
+    match selector {
+        Selector::Key(key) => value.get(*key),
+        Selector::Pointer(pointer) => value.pointer(*pointer),
     }
 }
 

@@ -1,7 +1,7 @@
 use Rattle.std.proofs.Common.{◌∙◌, [], ap, arith, max, of_calls, sym, Bor, List, ℕ}
 use Rattle.std.proofs.Math.ListN.{drop_of_length-le}
 use Rattle.jpick.specs.Files.{skips_files, status_after}
-use Rattle.jsonl.proofs.Turns.{at-close, at-end, cut-at, one-more}
+use Rattle.programs.proofs.Turns.{at-close, at-end, cut-at, one-more}
 use Rattle.jpick.proofs.files.pick_each.Goals as goal
 
 pub loop-file-preserved : goal.loop-file-preserved

@@ -1,6 +1,6 @@
 use Rattle.std.proofs.Common.{drop}
 use Rattle.jpick.specs.Files.{skips_files, status_after}
-use Rattle.jsonl.proofs.Turns.{GoesOn}
+use Rattle.programs.proofs.Turns.{GoesOn}
 use Rattle.jpick.proofs.files.pick_each.Given as goal
 
 abbrev pub invariant-loop-file : goal.invariant-loop-file

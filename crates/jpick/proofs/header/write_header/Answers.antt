@@ -3,10 +3,10 @@ use Rattle.std.specs.Io.KnownBytes.{Appends}
 use Rattle.std.specs.Prelude.{IsErrAnd, MatchResult, Some}
 use Rattle.simd_json_print.specs.Texts.{TargetState}
 use Rattle.simd_json_print.proofs.Texts.{ended-failed, ended-sound}
-use Rattle.jsonl.proofs.Folds.{begins-none}
-use Rattle.jsonl.specs.Failures.{Begins}
-use Rattle.jsonl.specs.declared.failure.Failure.{Failure}
-use Rattle.jsonl.specs.declared.failure.Failure.TheVariants.{Resources}
+use Rattle.programs.proofs.Begins.{begins-none}
+use Rattle.programs.specs.Failures.{Begins}
+use Rattle.programs.specs.declared.failure.Failure.{Failure}
+use Rattle.programs.specs.declared.failure.Failure.TheVariants.{Resources}
 use Rattle.jpick.specs.Rows.{row}
 use Rattle.jpick.specs.Runs.{header_fault}
 use Rattle.jpick.proofs.Enough.{room-for-header}

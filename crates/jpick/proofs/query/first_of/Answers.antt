@@ -2,7 +2,7 @@ use Rattle.std.proofs.Common.{◌≡◌, ◌∙◌, [], ap, length, map, sym, So
 use Rattle.std.specs.Prelude.{option_map}
 use Rattle.simd_json.specs.Viewed.{doc}
 use Rattle.simd_json_path.specs.Paths.{selected}
-use Rattle.simd_json_path.proofs.Rooms.{path-enough}
+use Rattle.simd_json_path.proofs.Enough.{path-enough}
 use Rattle.jpick.proofs.Enough.{left-none, left-some}
 use Rattle.jpick.proofs.query.first_of.Goals as goal
 

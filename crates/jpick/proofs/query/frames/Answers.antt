@@ -12,12 +12,12 @@ loop-query-preserved c =
     let queries = c.args.queries.now in
     let i = c.loop-query.query-index in
     let most = c.max-most.result in
-    all-more (has_frames most c.args.depth) queries i c.query-item.result c.loop-query-test.true
-    (frames-grow (take i queries) c.loop-query.most most c.args.depth (omega arith) c.loop-query.invariant)
-    (ap (has_frames most c.args.depth) (sym c.query-item.is) ∙ le-leb _ _ (omega arith))
+    all-more (has_frames most) queries i c.query-item.result c.loop-query-test.true
+    (frames-grow (take i queries) c.loop-query.most most (omega arith) c.loop-query.invariant)
+    (ap (has_frames most) (sym c.query-item.is) ∙ le-leb _ _ (omega arith))
 
 pub returns : goal.returns
 returns c =
     let queries = c.args.queries.now in
-    let p = has_frames c.loop-query.most c.args.depth in
+    let p = has_frames c.loop-query.most in
     sym (ap (λ n. list_all p (take n queries)) (omega arith) ∙ ap (list_all p) (take-length queries)) ∙ c.loop-query.invariant

@@ -4,4 +4,4 @@ use Rattle.jpick.specs.Queries.{has_frames}
 use Rattle.jpick.proofs.query.frames.Given as goal
 
 abbrev pub invariant-loop-query : goal.invariant-loop-query
-invariant-loop-query l = list_all (has_frames l.most l.depth) (take l.query-index l.queries) ≡ true
+invariant-loop-query l = list_all (has_frames l.most) (take l.query-index l.queries) ≡ true

@@ -1,5 +1,5 @@
 use Rattle.std.proofs.Common.{◌∙◌, ◌++◌, ◌∷◌, [], ap, append_assoc, sym}
-use Rattle.jsonl.specs.Cells.{cells}
+use Rattle.programs.specs.Cells.{cells}
 use Rattle.simd_json.specs.Viewed.{doc}
 use Rattle.simd_json_parts.specs.Bytes.{comma, left_bracket, right_bracket}
 use Rattle.simd_json_parts.specs.Printed.{compact}

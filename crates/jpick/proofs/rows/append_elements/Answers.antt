@@ -1,9 +1,9 @@
 use Rattle.std.proofs.Common.{◌∙◌, ◌++◌, ap, length, refl, sym}
 use Rattle.simd_json.specs.Viewed.{doc}
 use Rattle.simd_json_parts.specs.Printed.{compact}
-use Rattle.simd_json_path.specs.Left.{item_of, selected_left}
+use Rattle.simd_json_path.specs.IteratorNodes.{item_of, selected_left}
 use Rattle.simd_json_path.specs.Paths.{selected}
-use Rattle.simd_json_path.proofs.Rooms.{path-enough}
+use Rattle.simd_json_path.proofs.Enough.{path-enough}
 use Rattle.jpick.proofs.Arrays.{joined, joined-first, joined-step}
 use Rattle.jpick.proofs.Enough.{parts-of, value-of}
 use Rattle.jpick.proofs.rows.append_elements.Goals as goal
@@ -24,7 +24,7 @@ values-preserved g c =
     let old = c.values.rows.items in
     let next = parts-of at.0 (item_of c.in-Some.item) (selected_left c.next.new.self) (sym at.1 ∙ c.in-Some.ensures.steps) in
     let one = value-of c.in-Ok.selected c.in-Some.item (item_of c.in-Some.item) next.d refl c.in-Ok.is next.one in
-    let put = c.in_ok-append_compact.ensures.appended (doc c.in-Ok.selected) c.nodes.ensures.listed
+    let put = c.in_ok-append_compact.ensures
     ∙ ap (λ us. us ++ compact (doc c.in-Ok.selected)) c.in_ok-extend_from_slice.ensures.items
     ∙ ap (λ d. (old ++ c.values.mark.now) ++ compact d) one in
     (next.rest, next.others, joined-step old c.values.mark.now _ next.d at.0 next.rest put next.whole ∙ at.2)

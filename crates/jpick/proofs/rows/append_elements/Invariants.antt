@@ -1,10 +1,10 @@
 use Rattle.std.proofs.Common.{◌≡◌, ◌++◌, ◌∷◌, [], List, Some, length, map}
-use Rattle.jsonl.specs.Cells.{cells}
+use Rattle.programs.specs.Cells.{cells}
 use Rattle.simd_json.specs.Viewed.{doc}
 use Rattle.simd_json_parts.specs.Bytes.{comma}
 use Rattle.simd_json_parts.specs.Document.{Document}
 use Rattle.simd_json_parts.specs.Printed.{compact}
-use Rattle.simd_json_path.specs.Left.{selected_left}
+use Rattle.simd_json_path.specs.IteratorNodes.{selected_left}
 use Rattle.simd_json_path.specs.Paths.{selected}
 use Rattle.jpick.proofs.Arrays.{joined}
 use Rattle.jpick.proofs.rows.append_elements.Given as goal

@@ -1,6 +1,6 @@
 use Rattle.std.proofs.Common.{◌∙◌, ◌++◌, ap, append-nil, append_assoc, arith, length, refl, subst, sym, true, ◌≡◌}
 use Rattle.std.specs.Prelude.{option_map}
-use Rattle.jsonl.specs.Cells.{after_mark}
+use Rattle.programs.specs.Cells.{after_mark}
 use Rattle.simd_json.specs.Viewed.{doc}
 use Rattle.jpick.specs.Queries.{has_room}
 use Rattle.jpick.specs.Rows.{cell_at, mark_of}

@@ -1,6 +1,6 @@
 use Rattle.std.proofs.Common.{◌≡◌, ◌++◌, flat_map, length, take}
 use Rattle.std.specs.Prelude.{option_map}
-use Rattle.jsonl.specs.Cells.{after_mark}
+use Rattle.programs.specs.Cells.{after_mark}
 use Rattle.simd_json.specs.Viewed.{doc}
 use Rattle.jpick.specs.Rows.{cell_at, mark_of}
 use Rattle.jpick.proofs.rows.append_others.Given as goal

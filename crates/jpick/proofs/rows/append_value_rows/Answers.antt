@@ -1,8 +1,8 @@
 use Rattle.std.proofs.Common.{◌≡◌, ◌∙◌, ◌++◌, [], ap, append-nil, flat_map, length, map, refl, sym, Some}
 use Rattle.simd_json.specs.Viewed.{doc}
-use Rattle.simd_json_path.specs.Left.{item_of, selected_left}
+use Rattle.simd_json_path.specs.IteratorNodes.{item_of, selected_left}
 use Rattle.simd_json_path.specs.Paths.{selected}
-use Rattle.simd_json_path.proofs.Rooms.{path-enough}
+use Rattle.simd_json_path.proofs.Enough.{path-enough}
 use Rattle.jpick.specs.Rows.{value_row}
 use Rattle.jpick.proofs.Appended.{appended-next}
 use Rattle.jpick.proofs.Enough.{none-left, parts-of, value-of}

@@ -1,7 +1,7 @@
 use Rattle.std.proofs.Common.{◌≡◌, ◌++◌, List, Some, flat_map, length, map}
 use Rattle.simd_json.specs.Viewed.{doc}
 use Rattle.simd_json_parts.specs.Document.{Document}
-use Rattle.simd_json_path.specs.Left.{selected_left}
+use Rattle.simd_json_path.specs.IteratorNodes.{selected_left}
 use Rattle.simd_json_path.specs.Paths.{selected}
 use Rattle.jpick.specs.Rows.{value_row}
 use Rattle.jpick.proofs.rows.append_value_rows.Given as goal

@@ -1,10 +1,10 @@
 use Rattle.std.proofs.Common.{◌≡◌, ◌∙◌, [], ap, inr, rules, subst, sym, Ok}
 use Rattle.std.specs.Io.KnownBytes.{Appends}
 use Rattle.std.specs.Prelude.{IfOk}
-use Rattle.jsonl.proofs.Calls.{failed-as, mapped}
-use Rattle.jsonl.proofs.Folds.{begins-all, begins-none}
-use Rattle.jsonl.specs.Failures.{Begins, name_fault}
-use Rattle.jsonl.specs.declared.failure.Failure.TheVariants.{Resources}
+use Rattle.programs.proofs.Calls.{failed-as, mapped}
+use Rattle.programs.proofs.Begins.{begins-all, begins-none}
+use Rattle.programs.specs.Failures.{Begins, name_fault}
+use Rattle.programs.specs.declared.failure.Failure.TheVariants.{Resources}
 use Rattle.jpick.specs.Picked.{picked_document}
 use Rattle.jpick.specs.Runs.{IsStart, Shows}
 use Rattle.jpick.proofs.Ended.{finished, nothing-begun, reading-stopped, rejecting-stopped, writing-stopped}
@@ -19,7 +19,7 @@ returns-in_err-picker g c =
 
 pub returns-in_err-input : goal.returns-in_err-input
 returns-in_err-input g c =
-    let failed = c.in_err-input.ensures in
+    let failed = c.in_err-input.ensures.bytes in
     reading-stopped _ _ _ _ _ _ _ _ _ _ _ _ c.from_residual-in_err-input.result _ c.from_residual-in_err-input.ensures.1 failed.0
     c.requires.out c.requires.rejections
     (record { input = failed.1; read = failed.2; rows = begins-none _ _; rejections = begins-none _ _ })
@@ -30,7 +30,7 @@ returns-in_err-take_document g c =
     let file = c.args.file.now in
     let start = subst (λ r. IfOk r (IsStart w file))
     (mapped c.new.result c.map_err.result c.in_ok-picker.picker _ c.map_err.ensures.cases c.in_ok-picker.was) c.new.ensures in
-    let read = c.in_ok-input.ensures in
+    let read = c.in_ok-input.ensures.bytes in
     let failed = c.in_err-take_document.ensures c.requires.rejections in
     rejecting-stopped _ _ _ _ _ _ _ _ _ _ _ _ c.from_residual-in_err-take_document.result _
     c.from_residual-in_err-take_document.ensures.1 failed.0 read.0 c.requires.out (record {
@@ -48,7 +48,7 @@ returns-in_err-write g c =
     let file = c.args.file.now in
     let start = subst (λ r. IfOk r (IsStart w file))
     (mapped c.new.result c.map_err.result c.in_ok-picker.picker _ c.map_err.ensures.cases c.in_ok-picker.was) c.new.ensures in
-    let read = c.in_ok-input.ensures in
+    let read = c.in_ok-input.ensures.bytes in
     let taken = c.in_ok-take_document.ensures c.requires.rejections in
     let shown = subst (λ text. Shows c.take_document.new.self [] (g.E.Write.contents c.args.rejections.now.inner)
     (g.E.Write.contents c.take_document.new.err.inner) w file (picked_document w file text)) c.as_mut_slice.ensures.value
@@ -68,7 +68,7 @@ returns g c =
     let file = c.args.file.now in
     let start = subst (λ r. IfOk r (IsStart w file))
     (mapped c.new.result c.map_err.result c.in_ok-picker.picker _ c.map_err.ensures.cases c.in_ok-picker.was) c.new.ensures in
-    let read = c.in_ok-input.ensures in
+    let read = c.in_ok-input.ensures.bytes in
     let taken = c.in_ok-take_document.ensures c.requires.rejections in
     let shown = subst (λ text. Shows c.take_document.new.self [] (g.E.Write.contents c.args.rejections.now.inner)
     (g.E.Write.contents c.take_document.new.err.inner) w file (picked_document w file text)) c.as_mut_slice.ensures.value

@@ -1,10 +1,10 @@
 use Rattle.std.proofs.Common.{◌≡◌, ◌∙◌, [], ap, refl, rules, subst, sym, Ok}
 use Rattle.std.proofs.KnownBytes.{Consumes-nil}
 use Rattle.std.specs.Prelude.{IfOk}
-use Rattle.jsonl.proofs.Calls.{failed-as, mapped}
-use Rattle.jsonl.specs.Failures.{Begins, name_fault}
-use Rattle.jsonl.specs.Lines.{Moves}
-use Rattle.jsonl.specs.declared.failure.Failure.TheVariants.{Resources}
+use Rattle.programs.proofs.Calls.{failed-as, mapped}
+use Rattle.programs.specs.Failures.{Begins, name_fault}
+use Rattle.programs.specs.Lines.{Moves}
+use Rattle.programs.specs.declared.failure.Failure.TheVariants.{Resources}
 use Rattle.jpick.specs.Picked.{picked_lines, with_line}
 use Rattle.jpick.specs.Runs.{HasPicked, IsStart, Shows}
 use Rattle.jpick.proofs.Ended.{finished, nothing-begun, reading-stopped, rejecting-stopped, writing-stopped}

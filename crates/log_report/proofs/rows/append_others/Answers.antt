@@ -2,7 +2,7 @@ use Rattle.std.proofs.Common.{◌∷◌, [], ap, arith}
 use Rattle.std.specs.Prelude.{option_map}
 use Rattle.simd_json.specs.Viewed.{doc}
 use Rattle.simd_json_parts.specs.Bytes.{tab}
-use Rattle.jsonl.specs.Cells.{after_mark}
+use Rattle.programs.specs.Cells.{after_mark}
 use Rattle.log_report.specs.Rows.{cell, column}
 use Rattle.log_report.proofs.Cuts.{extends-all, extends-more, extends-none, extends-then}
 use Rattle.log_report.proofs.rows.append_others.Goals as goal

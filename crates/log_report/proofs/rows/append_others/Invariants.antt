@@ -1,6 +1,6 @@
 use Rattle.std.proofs.Common.{◌∷◌, [], flat_map, take}
 use Rattle.simd_json.specs.Viewed.{doc}
-use Rattle.jsonl.specs.Cells.{after_mark}
+use Rattle.programs.specs.Cells.{after_mark}
 use Rattle.simd_json_parts.specs.Bytes.{tab}
 use Rattle.log_report.specs.Rows.{Extends, column}
 use Rattle.log_report.proofs.rows.append_others.Given as goal

@@ -1,6 +1,6 @@
 use Rattle.std.proofs.Common.{◌∙◌, ◌++◌, ◌∷◌, [], ap, sym, subst, flat_map}
 use Rattle.simd_json.specs.Viewed.{doc}
-use Rattle.jsonl.specs.Cells.{after_mark, cells}
+use Rattle.programs.specs.Cells.{after_mark, cells}
 use Rattle.simd_json_parts.specs.Bytes.{tab}
 use Rattle.log_report.specs.Rows.{Extends, cell, column}
 use Rattle.log_report.proofs.Cuts.{extends-then, on-ok}

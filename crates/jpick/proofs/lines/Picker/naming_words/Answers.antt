@@ -1,19 +1,21 @@
-use Rattle.std.proofs.Common.{◌∙◌, ◌++◌, ap, append-nil, sym, true}
-use Rattle.jsonl.specs.Rejections.{rejection_words}
+use Rattle.std.proofs.Common.{◌∙◌, ◌++◌, ap, ap₂, append-nil, sym, true}
+use Rattle.programs.specs.Rejections.{rejection_words}
 use Rattle.jpick.specs.Picked.{hint}
 use Rattle.jpick.proofs.lines.Picker.naming_words.Goals as goal
 
 pub returns-then-not-is_hinted : goal.returns-then-not-is_hinted
 returns-then-not-is_hinted g c =
     let old = c.args.self.now in
-    let why = rejection_words old.wanted.now.longest old.number in
-    c.in_ok-words.ensures ∙ ap (λ t. why t c.args.error) c.as_slice.ensures.value ∙ sym (append-nil _)
-    ∙ ap (λ b. why old.original.items c.args.error ++ hint b) (sym c.if-not-is_hinted.true ∙ c.is_hinted-is_hinted.ensures)
+    let why = rejection_words old.wanted.now.longest in
+    c.in_ok-words.ensures ∙ ap₂ (λ n t. why n t c.args.error) c.number-number.ensures c.text.ensures ∙ sym (append-nil _)
+    ∙ ap (λ b. why old.records.number old.records.text c.args.error ++ hint b)
+    (sym c.if-not-is_hinted.true ∙ c.is_hinted-is_hinted.ensures)
 
 pub returns : goal.returns
 returns g c =
     let old = c.args.self.now in
-    let why = rejection_words old.wanted.now.longest old.number in
+    let why = rejection_words old.wanted.now.longest in
     c.in_ok-writeln.ensures.bytes
-    ∙ ap (λ us. us ++ hint true) (c.in_ok-words.ensures ∙ ap (λ t. why t c.args.error) c.as_slice.ensures.value)
-    ∙ ap (λ b. why old.original.items c.args.error ++ hint b) (sym c.if-not-is_hinted.false ∙ c.is_hinted-is_hinted.ensures)
+    ∙ ap (λ us. us ++ hint true) (c.in_ok-words.ensures ∙ ap₂ (λ n t. why n t c.args.error) c.number-number.ensures c.text.ensures)
+    ∙ ap (λ b. why old.records.number old.records.text c.args.error ++ hint b)
+    (sym c.if-not-is_hinted.false ∙ c.is_hinted-is_hinted.ensures)

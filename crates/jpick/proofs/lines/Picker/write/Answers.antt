@@ -4,7 +4,7 @@ use Rattle.std.specs.Prelude.{Some}
 use Rattle.simd_json_print.specs.Texts.{TargetState}
 use Rattle.simd_json_print.proofs.Texts.{ended-failed, ended-sound}
 use Rattle.jpick.specs.Runs.{Writes}
-use Rattle.jsonl.specs.Failures.{Begins, output_fault}
+use Rattle.programs.specs.Failures.{Begins, output_fault}
 use Rattle.jpick.proofs.lines.Picker.write.Goals as goal
 
 pub returns-in-Err : goal.returns-in-Err

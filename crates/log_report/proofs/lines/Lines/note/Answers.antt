@@ -2,8 +2,8 @@ use Rattle.std.proofs.Common.{◌≡◌, ◌∙◌, ◌++◌, [], ap, cond, eqb-
 use Rattle.std.specs.Io.KnownBytes.{Appends}
 use Rattle.std.specs.Prelude.{IfOk, codes}
 use Rattle.simd_json_print.proofs.Texts.{appends-none}
-use Rattle.jsonl.proofs.Calls.{mapped, weaker}
-use Rattle.jsonl.specs.Failures.{Begins}
+use Rattle.programs.proofs.Calls.{mapped, weaker}
+use Rattle.programs.specs.Failures.{Begins}
 use Rattle.log_report.specs.Report.{notice, notice_of, notice_words}
 use Rattle.log_report.specs.Runs.{counts_of}
 use Rattle.log_report.specs.declared.rows.Wanted.{Wanted}

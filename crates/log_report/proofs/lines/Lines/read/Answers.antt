@@ -1,9 +1,9 @@
 use Rattle.std.proofs.Common.{◌∙◌, [], ap, refl, subst, sym}
 use Rattle.std.proofs.KnownBytes.{Consumes-nil}
-use Rattle.jsonl.proofs.Reading
-use Rattle.jsonl.proofs.Reading.{at-start}
-use Rattle.jsonl.specs.Failures.{name_fault}
-use Rattle.jsonl.specs.Lines.{Moves}
+use Rattle.programs.proofs.Reading
+use Rattle.programs.proofs.Reading.{at-start}
+use Rattle.programs.specs.Failures.{name_fault}
+use Rattle.programs.specs.Lines.{Moves}
 use Rattle.log_report.specs.Runs.{BeginsCountedLine, CountsLine, input_fault}
 use Rattle.log_report.proofs.Counting.{block-at, end-begun, end-taken, line-begun, line-taken, reading-begun}
 use Rattle.log_report.proofs.Written.{input-handed-on, input-named, read-fault}
@@ -22,9 +22,9 @@ loop-init g c = record {
     shown = λ held w last r shown. record {
       by = shown.by;
       of = refl;
-      limited = shown.limited;
-      reserved = shown.reserved;
-      number = refl;
+      longest = ap (λ n. n.longest) c.restart.ensures ∙ shown.longest;
+      depth = ap (λ n. n.depth) c.restart.ensures ∙ shown.depth;
+      number = ap (λ n. n.number) c.restart.ensures;
       all_taken = shown.all_taken;
       counts = shown.counts;
       rejections = shown.rejections;
