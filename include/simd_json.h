@@ -14,10 +14,11 @@
  *             status = simd_json_parser_parse(&parser, input, strlen(input), &d, &place);
  *         if (status == SIMD_JSON_OK) {
  *             size_t at = simd_json_pointer(d.nodes, d.nodes_len, d.text, d.text_len, 0, "/the_answer", 11);
- *             if (at != SIMD_JSON_NO_NODE && d.nodes[at].kind == SIMD_JSON_U64)
- *                 printf("%llu\n", (unsigned long long)d.nodes[at].value);
+ *             int64_t answer;
+ *             if (simd_json_int64(d.nodes, d.nodes_len, at, &answer) == SIMD_JSON_OK)
+ *                 printf("%lld\n", (long long)answer);
  *         } else {
- *             fprintf(stderr, "rejected: status %d at byte %zu\n", status, place.index);
+ *             fprintf(stderr, "rejected: %s at byte %zu\n", simd_json_status_text(status), place.index);
  *         }
  *         simd_json_close(&parser);
  *         return status != SIMD_JSON_OK;
@@ -31,23 +32,32 @@
  * with threads.
  *
  * Pointers are to the caller's memory, which a call uses only until it returns, except those that simd_json_parser_parse writes.
- * Regions must not overlap. A pointer may be null if its length is 0. Nothing past a length is read or written.
+ * Regions must not overlap. A pointer may be null if its length is 0, and no other: gcc and clang warn of a null one (-Wnonnull).
+ * Nothing past a length is read or written.
  *
  * The input needs no terminator and no padding. simd_json_parser_parse and simd_json_parser_print OVERWRITE it: they decode
  * escapes in place, and afterwards its contents are unspecified. Pass a copy of what you need again. All other calls leave it
  * unchanged.
  *
  * `max_depth` is how many arrays and objects may be open at a time: 1024 is usual, 0 allows scalars only. A call takes the same
- * stack at any depth.
+ * stack at any depth, but a check 128 bytes more for each that is open, up to 64 of them.
  */
 #ifndef SIMD_JSON_H
 #define SIMD_JSON_H
 
+#include <stdbool.h>
 #include <stddef.h>
 #include <stdint.h>
 
 #ifdef __cplusplus
 extern "C" {
+#endif
+
+/* Of a call: the parameters that must not be null, by number. */
+#ifdef __GNUC__
+#define SIMD_JSON_NONNULL(...) __attribute__((nonnull(__VA_ARGS__)))
+#else
+#define SIMD_JSON_NONNULL(...)
 #endif
 
 /* The version of this header, as in `#if SIMD_JSON_VERSION >= 400`, and the version of the library that is linked. With the
@@ -95,8 +105,12 @@ enum {
     /* The parser is not open. The input is not read. */
     SIMD_JSON_PARSER_CLOSED = 20,
 
-    /* There is no such value: the JSON Pointer names none, or is not UTF-8; or no node has the index. */
-    SIMD_JSON_NO_VALUE = 21
+    /* There is no such value: the JSON Pointer leads nowhere, or no node with the index has such a value. */
+    SIMD_JSON_NO_VALUE = 21,
+
+    /* The JSON Pointer is malformed (RFC 6901, section 3): it is not empty and does not begin with `/`, or a `~` in it is followed
+     * by neither `0` nor `1`. */
+    SIMD_JSON_INVALID_POINTER = 22
 };
 
 /* Where an input is rejected: a byte offset into it, and the byte there. A number that ends too early may be reported at the
@@ -147,7 +161,7 @@ static inline size_t simd_json_next(const simd_json_node *nodes, size_t i) {
 
 /* Checks whether the input is a document. It may be a string literal, or memory that cannot be written. It is copied only if it
  * is rejected at a token or has more than 64 open containers. Writes *place. */
-int32_t simd_json_check(const void *input, size_t len, size_t max_depth, simd_json_place *place);
+int32_t simd_json_check(const void *input, size_t len, size_t max_depth, simd_json_place *place) SIMD_JSON_NONNULL(4);
 
 /* Returns the index of the value of the first pair with a key, in the object at index `object`; or SIMD_JSON_NO_NODE if the object
  * lacks the key, or that node is not an object. The key is passed as its bytes: for `{"a/b":1}` it is `a/b`.
@@ -163,6 +177,26 @@ size_t simd_json_get(const simd_json_node *nodes, size_t nodes_len, const void *
  * of an array, in digits without a leading zero. For nodes that are not those of a document see simd_json_get. */
 size_t simd_json_pointer(const simd_json_node *nodes, size_t nodes_len, const void *text, size_t text_len, size_t from,
                          const void *pointer, size_t pointer_len);
+
+/* Returns whether the bytes are a JSON Pointer (RFC 6901, section 3). If not, this is why simd_json_pointer found nothing. */
+bool simd_json_is_pointer(const void *pointer, size_t pointer_len);
+
+/* Reads the number at index `at` of the nodes of a document, of whatever kind it is, as the nearest double, like simd_json_double:
+ * an integer of up to 53 bits is exact, and `-0` is 0. The index may be one that was not found:
+ *
+ *     double price;
+ *     size_t at = simd_json_pointer(d.nodes, d.nodes_len, d.text, d.text_len, 0, "/price", 6);
+ *     if (simd_json_number(d.nodes, d.nodes_len, d.text, d.text_len, at, &price) == SIMD_JSON_OK)
+ *
+ * NO_VALUE: no node has the index, or it is no number; *number is unchanged. */
+int32_t simd_json_number(const simd_json_node *nodes, size_t nodes_len, const void *text, size_t text_len, size_t at,
+                         double *number) SIMD_JSON_NONNULL(6);
+
+/* Reads the integer at index `at` of the nodes of a document, of whatever kind it is.
+ *
+ * INVALID_NUMBER: the number is not written as an integer (`1.0` and `1e2` are not), or is below -2^63 or above 2^63 - 1.
+ * NO_VALUE: no node has the index, or it is no number. After both *number is unchanged. */
+int32_t simd_json_int64(const simd_json_node *nodes, size_t nodes_len, size_t at, int64_t *number) SIMD_JSON_NONNULL(4);
 
 /* How a value is printed: without whitespace, or with a line for each member, after two spaces for each container that is open
  * there. Pretty text can be much longer than the input. */
@@ -181,7 +215,7 @@ enum {
  *
  * For nodes that are not those of a document, and for texts that have changed since the parse, the text is unspecified. */
 int32_t simd_json_print(const simd_json_node *nodes, size_t nodes_len, const void *text, size_t text_len, size_t from,
-                        uint32_t layout, void *out, size_t out_len, size_t *needed);
+                        uint32_t layout, void *out, size_t out_len, size_t *needed) SIMD_JSON_NONNULL(9);
 
 /* Converts a number as it is written, such as the literal of a SIMD_JSON_DECIMAL, to the nearest double, in any locale, but only
  * in the default rounding mode (FE_TONEAREST):
@@ -191,7 +225,7 @@ int32_t simd_json_print(const simd_json_node *nodes, size_t nodes_len, const voi
  *
  * Of two that are equally near it is the one with the even significand; past the greatest it is infinite.
  * INVALID_NUMBER: the bytes are not exactly one number of a document; *number is unchanged. */
-int32_t simd_json_double(const void *literal, size_t len, double *number);
+int32_t simd_json_double(const void *literal, size_t len, double *number) SIMD_JSON_NONNULL(3);
 
 /* Converts an integer as it is written, such as the literal of a SIMD_JSON_I128 or a SIMD_JSON_U128: *low and *high are the lower
  * and the upper 64 bits of its 128, of a negative integer in two's complement:
@@ -203,7 +237,7 @@ int32_t simd_json_double(const void *literal, size_t len, double *number);
  * A literal that begins with `-` is from -2^127 to 0, any other from 0 to 2^128 - 1.
  * INVALID_NUMBER: the bytes are not exactly one integer of a document; *low and *high are unchanged. A number with a fraction or an
  * exponent is no integer, whatever its value. */
-int32_t simd_json_integer(const void *literal, size_t len, uint64_t *low, uint64_t *high);
+int32_t simd_json_integer(const void *literal, size_t len, uint64_t *low, uint64_t *high) SIMD_JSON_NONNULL(3, 4);
 
 /* Writes the structural indexes of the input, in ascending order: the byte offset of the opening quote of each string and,
  * outside strings, of each structural character and of the first byte of each other token. Writes *place.
@@ -215,17 +249,20 @@ int32_t simd_json_integer(const void *literal, size_t len, uint64_t *low, uint64
  * TOO_LITTLE_ROOM: *used is how many there are, and indexes is unchanged. Room for `len` of them is always enough.
  * Any other status: *used and indexes are unchanged. */
 int32_t simd_json_scan(const void *input, size_t len, uint32_t *indexes, size_t indexes_len, size_t *used,
-                       simd_json_place *place);
+                       simd_json_place *place) SIMD_JSON_NONNULL(5, 6);
 
-/* A place in an input, for people: a byte offset, its line by line feeds and its column in characters, both from 1. */
+/* A place in an input, for people: a byte offset, its line by line feeds and its column in characters, both from 1. Of an error
+ * also its kind as people are shown it, which is TRAILING_DATA for more text after any document; of a node OK. */
 typedef struct {
     size_t byte;
     size_t line;
     size_t column;
+    int32_t status;
 } simd_json_position;
 
-/* Finds the position of an error, and its reason in words, as "expected a value, found `]`": `status` and `place` are what a call
- * has reported, and `input` is the bytes as they were before it. Writes *position:
+/* Finds the position of an error, and its reason in words, as "a line feed in the string that begins at 1:7": `status` and `place`
+ * are what a call has reported, `input` is the bytes as they were before it, and `first_line` the number of their first line: 1, or
+ * that of a record in its file. Writes *position:
  *
  * - An error with a character is at its index; if more text follows the document, at the first byte of that text.
  * - An error of the whole input is at the first byte that begins no UTF-8 character, at the control byte in a string, at the
@@ -236,9 +273,10 @@ typedef struct {
  * OK: *needed is the length of the reason, which is at the front of out, without a terminator.
  * TOO_LITTLE_ROOM: *needed is the length that is needed, at most SIMD_JSON_REASON_MAX, and out is unchanged.
  * OUT_OF_MEMORY: *needed and out are unchanged. */
-#define SIMD_JSON_REASON_MAX 64
-int32_t simd_json_location(const void *input, size_t len, int32_t status, const simd_json_place *place,
-                           simd_json_position *position, void *out, size_t out_len, size_t *needed);
+#define SIMD_JSON_REASON_MAX 128
+int32_t simd_json_location(const void *input, size_t len, size_t first_line, int32_t status, const simd_json_place *place,
+                           simd_json_position *position, void *out, size_t out_len, size_t *needed)
+    SIMD_JSON_NONNULL(5, 6, 9);
 
 /* Finds where a node of a document was written: the position of its first byte in the input. `input` is the bytes as they were
  * before the parse, and `node` the index of the node: of the first byte of a scalar, of the opening quote of a key or a string, or of
@@ -248,7 +286,7 @@ int32_t simd_json_location(const void *input, size_t len, int32_t status, const 
  *
  * OK: *position is written. NO_VALUE: the input has not so many nodes. OUT_OF_MEMORY: an allocation failed. After both *position is
  * unchanged. For an input that is not a document the result is unspecified. */
-int32_t simd_json_node_position(const void *input, size_t len, size_t node, simd_json_position *position);
+int32_t simd_json_node_position(const void *input, size_t len, size_t node, simd_json_position *position) SIMD_JSON_NONNULL(4);
 
 /* A parser that keeps its memory from one input to the next, which is faster for many small inputs:
  *
@@ -267,11 +305,12 @@ typedef struct {
 
 /* Opens a parser for inputs with at most max_depth open containers. A parser that is open is closed first. OUT_OF_MEMORY: its
  * one allocation failed, and it is closed. It returns no other error. */
-int32_t simd_json_open(simd_json_parser *parser, size_t max_depth);
+int32_t simd_json_open(simd_json_parser *parser, size_t max_depth) SIMD_JSON_NONNULL(1);
 
 /* Like simd_json_check, in memory that the parser keeps. The parser stays open after each status. OUT_OF_MEMORY: an allocation
  * failed; none is made if an earlier check with the parser needed as much. PARSER_CLOSED: only *place is written. */
-int32_t simd_json_parser_check(simd_json_parser *parser, const void *input, size_t len, simd_json_place *place);
+int32_t simd_json_parser_check(simd_json_parser *parser, const void *input, size_t len, simd_json_place *place)
+    SIMD_JSON_NONNULL(1, 4);
 
 /* A document: its nodes, in preorder. They are the parser's: do not write to them, and use them only until the next call with
  * the parser, simd_json_close included. The texts of strings and literals are in the input, `text`, which must live and stay
@@ -290,7 +329,7 @@ typedef struct {
  * unchanged, and earlier nodes of the parser are no longer valid. The parser stays open after each status, and keeps what it has
  * allocated. PARSER_CLOSED: only *place is written. */
 int32_t simd_json_parser_parse(simd_json_parser *parser, void *input, size_t len, simd_json_document *document,
-                               simd_json_place *place);
+                               simd_json_place *place) SIMD_JSON_NONNULL(1, 4, 5);
 
 /* Prints the value that a JSON Pointer names in a document (simd_json_pointer), in the form of simd_json_print; the empty pointer
  * names the whole document. The whole input is read, and any error in it is reported. Writes *place. OVERWRITES the input.
@@ -298,12 +337,13 @@ int32_t simd_json_parser_parse(simd_json_parser *parser, void *input, size_t len
  * OK: *needed is the length of the text, which is at the front of out, without a terminator; nothing after it is written.
  * TOO_LITTLE_ROOM: *needed is the length that is needed, and out is unchanged; pass a fresh copy of the input with more. For
  * compact text `len` bytes of out are always enough.
- * Any other status: *needed and out are unchanged. The first that applies is returned: PARSER_CLOSED; NO_VALUE for a pointer
- * that is not UTF-8; the error of the input; NO_VALUE for a pointer that names no value; OUT_OF_MEMORY, for the text, or for
- * more than 64 open containers. After the first two the input is unchanged. The parser stays open after each status, and
- * allocates nothing if what it keeps suffices. */
+ * Any other status: *needed and out are unchanged. The first that applies is returned: PARSER_CLOSED; INVALID_POINTER or NO_VALUE
+ * for a pointer that is not UTF-8; the error of the input; INVALID_POINTER; NO_VALUE; OUT_OF_MEMORY, for the text, or for more
+ * than 64 open containers. After the first two the input is unchanged. The parser stays open after each status, and allocates
+ * nothing if what it keeps suffices. */
 int32_t simd_json_parser_print(simd_json_parser *parser, void *input, size_t len, const void *pointer, size_t pointer_len,
-                               uint32_t layout, void *out, size_t out_len, size_t *needed, simd_json_place *place);
+                               uint32_t layout, void *out, size_t out_len, size_t *needed, simd_json_place *place)
+    SIMD_JSON_NONNULL(1, 9, 10);
 
 /* Values on demand: an input is kept, and values in it are found by JSON Pointers (simd_json_pointer), without nodes.
  *
@@ -313,7 +353,7 @@ int32_t simd_json_parser_print(simd_json_parser *parser, void *input, size_t len
  *         printf("%.*s\n", (int)found.len, out);
  *
  * Only what is on the way to a value is read: a value may also be found in an input that is not a document. A malformed word or
- * number is no value; a malformed string, array or object is found. */
+ * number is no value, nor is an array or an object without an end; a malformed string and any other array or object are found. */
 typedef struct {
     uint32_t kind; /* as of a node */
     size_t len;    /* of the value as it is written */
@@ -322,23 +362,38 @@ typedef struct {
 /* Keeps a copy of the input with its structural indexes, instead of the input that was kept before. Writes *place. The errors
  * are those of simd_json_scan, OUT_OF_MEMORY only if what the parser keeps is too small; after an error no input is kept. Of the
  * other calls only simd_json_close and simd_json_open discard it. */
-int32_t simd_json_parser_scan(simd_json_parser *parser, const void *input, size_t len, simd_json_place *place);
+int32_t simd_json_parser_scan(simd_json_parser *parser, const void *input, size_t len, simd_json_place *place)
+    SIMD_JSON_NONNULL(1, 4);
 
 /* Writes the value that a pointer names in the input that is kept, as it is written there: a string with quotes and escapes, an
  * array or an object with all that is in it. It can be passed on as an input, as to simd_json_parser_parse.
  *
  * OK: *found is its kind and its length, and it is at the front of out; nothing after it is written.
  * TOO_LITTLE_ROOM: *found is the same, and out is unchanged.
- * NO_VALUE: the pointer names none or is not UTF-8, or no input is kept; *found and out are unchanged, as after PARSER_CLOSED,
- * which comes before. */
+ * Any other status: *found and out are unchanged. The first that applies is returned: PARSER_CLOSED; INVALID_POINTER; NO_VALUE,
+ * also if no input is kept. */
 int32_t simd_json_parser_pointer(simd_json_parser *parser, const void *pointer, size_t pointer_len, simd_json_found *found,
-                                 void *out, size_t out_len);
+                                 void *out, size_t out_len) SIMD_JSON_NONNULL(1, 4);
 
 /* Frees what the parser keeps, and closes it. It may be opened again; closing a closed parser does nothing. */
-void simd_json_close(simd_json_parser *parser);
+void simd_json_close(simd_json_parser *parser) SIMD_JSON_NONNULL(1);
 
-/* Writes the name of a status, as "InvalidNumber", or of a kind of node, as "Decimal", to the front of out if it fits, without a
- * terminator: printf("%.*s", (int)n, out). Returns its length, at most SIMD_JSON_NAME_MAX, or 0 for any other number. */
+/* Returns the name of a status, as "InvalidNumber", or of a kind of node, as "Decimal"; "" for any other number. */
+static inline const char *simd_json_status_text(int32_t status) {
+    static const char *const texts[] = {
+        "Ok", "OutOfMemory", "InputTooLarge", "InvalidUtf8", "Syntax", "Eof", "InternalError", "ExpectedArrayContent",
+        "ExpectedObjectContent", "ExpectedObjectKey", "ExpectedObjectColon", "TrailingData", "DepthLimitExceeded", "ExpectedTrue",
+        "ExpectedFalse", "ExpectedNull", "InvalidNumber", "InvalidEscape", "InvalidUnicodeCodepoint", "TooLittleRoom",
+        "ParserClosed", "NoValue", "InvalidPointer"};
+    return status >= 0 && status <= SIMD_JSON_INVALID_POINTER ? texts[status] : "";
+}
+static inline const char *simd_json_kind_text(uint32_t kind) {
+    static const char *const texts[] = {"Null", "Bool", "I64", "U64", "I128", "U128", "Decimal", "String", "Array", "Object"};
+    return kind <= SIMD_JSON_OBJECT ? texts[kind] : "";
+}
+
+/* Writes the same, without a terminator, to the front of out if it fits, for programs that do not include this header. Returns its
+ * length, at most SIMD_JSON_NAME_MAX, or 0 for any other number. */
 #define SIMD_JSON_NAME_MAX 23
 size_t simd_json_status_name(int32_t status, void *out, size_t out_len);
 size_t simd_json_kind_name(uint32_t kind, void *out, size_t out_len);

@@ -3,12 +3,16 @@
  *
  *     simd_json::parser parser;
  *     simd_json::element root = parser.parse(R"({"the_answer": 42, "sizes": [1, 2]})");
- *     std::cout << root["the_answer"].as_int64().value() << '\n';
+ *     std::cout << root["the_answer"].as<int>() << ' ' << root.value_or("port", 8080) << '\n';
  *     for (simd_json::element size : root["sizes"].array())
- *         std::cout << size.as_double().value() << '\n';
+ *         std::cout << size.as<double>() << '\n';
  */
 #ifndef SIMD_JSON_HPP
 #define SIMD_JSON_HPP
+
+#if __cplusplus < 201703L || !defined(__cpp_exceptions)
+#error "simd_json.hpp needs C++17 and exceptions: use -std=c++17, and not -fno-exceptions"
+#endif
 
 #include <simd_json.h>
 
@@ -38,8 +42,7 @@ namespace simd_json {
 class error : public std::exception {
 public:
     error(int32_t status, const simd_json_place &place) : status_(status), place_(place) {
-        char name[SIMD_JSON_NAME_MAX];
-        what_.assign(name, simd_json_status_name(status, name, sizeof name));
+        what_ = simd_json_status_text(status);
         what_ += " at character " + std::to_string(place.index);
     }
 
@@ -48,13 +51,14 @@ public:
         : error(status, place) {
         char words[SIMD_JSON_REASON_MAX];
         size_t len = 0;
-        const int32_t located = simd_json_location(text.data(), text.size(), status, &place,
+        const int32_t located = simd_json_location(text.data(), text.size(), 1, status, &place,
                                                    &position_, words, sizeof words, &len);
         if (located != SIMD_JSON_OK)
             position_ = {};
+        reason_.assign(words, len);
         if (len == 0)
             return;
-        reason_.assign(words, len);
+        what_.replace(0, what_.find(' '), simd_json_status_text(position_.status));
         what_ += ", line " + std::to_string(position_.line);
         what_ += " column " + std::to_string(position_.column) + ": " + reason_;
     }
@@ -70,8 +74,8 @@ public:
 
     /* The place for people, also of an error of the whole input, whose index is 0, and of more text
      * after the document, at its first byte: the byte, the line and the column in characters, both
-     * from 1, and the reason, as "expected a value, found `]`". Zeros and no reason if the text was
-     * not given, or an allocation failed. */
+     * from 1, and the reason, as "expected a value, found `]`". Zeros if the text was not given,
+     * which is the reason then, or an allocation failed. */
     size_t byte() const noexcept { return position_.byte; }
     size_t line() const noexcept { return position_.line; }
     size_t column() const noexcept { return position_.column; }
@@ -81,8 +85,16 @@ private:
     int32_t status_;
     simd_json_place place_;
     simd_json_position position_{};
-    std::string reason_, what_;
+    std::string reason_ = "parse(), which takes a copy, has line, column and reason", what_;
 };
+
+/* Throws std::invalid_argument unless a text is a JSON Pointer (RFC 6901, section 3). */
+inline void require_pointer(std::string_view text) {
+    if (!simd_json_is_pointer(text.data(), text.size()))
+        throw std::invalid_argument(
+            "simd_json: \"" + std::string(text) + "\" is no JSON Pointer (RFC 6901): write / before "
+            "each key and index, as in /users/0/name, and in a key ~1 for / and ~0 for ~");
+}
 
 /* The text that `print` writes to the front of a string, again while there is too little room. */
 template <class Print> std::string printed(size_t needed, Print print) {
@@ -106,16 +118,20 @@ template <bool is_object> class members;
 using array_view = members<false>;
 using object_view = members<true>;
 
+template <class T>
+inline constexpr bool is_scalar = std::is_arithmetic_v<T> || std::is_same_v<T, std::nullptr_t>
+                                  || std::is_convertible_v<const T &, std::string_view>;
+
 /* A value of a document, which may be copied; a default one is null. It is valid until its parser
- * parses again, is destroyed or has another moved into it, and as long as a string that was passed
- * by reference is unchanged (parser::parse). Without NDEBUG it throws std::logic_error, before it
- * reads, once its parser has begun another parse; with NDEBUG it does not, since with the test
- * loops over a large document take 4 to 117 % longer. The rest is not tested. */
+ * parses again, is destroyed or has another moved into it, and as long as a string that was parsed
+ * in place is unchanged. Without NDEBUG it throws std::logic_error, before it reads, once its
+ * parser has begun another parse; with NDEBUG it does not, since with the test loops over a large
+ * document take 4 to 117 % longer. The rest is not tested. */
 class element {
     template <class T>
     static constexpr bool is_index = (std::is_integral_v<T> || std::is_enum_v<T>)
                                      && std::is_convertible_v<T, size_t>
-                                     && !std::is_same_v<T, bool>;
+                                     && !std::is_same_v<T, bool> && sizeof(T) <= sizeof(size_t);
 
 public:
     element() : element(null_document) {}
@@ -128,6 +144,9 @@ public:
     /* SIMD_JSON_NULL to SIMD_JSON_OBJECT. */
     uint32_t kind() const { return node().kind; }
     bool is_null() const { return kind() == SIMD_JSON_NULL; }
+    bool is_bool() const { return kind() == SIMD_JSON_BOOL; }
+    bool is_number() const { return kind() >= SIMD_JSON_I64 && kind() <= SIMD_JSON_DECIMAL; }
+    bool is_string() const { return kind() == SIMD_JSON_STRING; }
     bool is_array() const { return kind() == SIMD_JSON_ARRAY; }
     bool is_object() const { return kind() == SIMD_JSON_OBJECT; }
 
@@ -175,13 +194,24 @@ public:
         }
     }
 
-    /* The elements, or the members. A value of another kind has none. */
+    /* The value as a bool, an integral or floating type, a std::string or a std::string_view;
+     * throws std::out_of_range if it is of another kind, or an integer that does not fit. */
+    template <class T> T as() const {
+        const auto value = read<T>();
+        if (!value || (std::is_integral_v<T> && static_cast<T>(*value) != *value))
+            throw other("value of this type");
+        return static_cast<T>(*value);
+    }
+
+    /* The elements, or the members, and how many there are; throws std::out_of_range if the value
+     * is of another kind. */
     array_view array() const;
     object_view object() const;
+    size_t size() const;
 
     /* The value of the first member of an object with a key, or the element of an array with an
-     * index, of any integral type but bool; if there is none, nothing, or for [] std::out_of_range.
-     */
+     * index, of any integral type of at most 64 bits but bool; if there is none, nothing, or for []
+     * std::out_of_range. */
     std::optional<element> get(std::string_view key) const { return named(simd_json_get, key); }
     template <class Index, std::enable_if_t<is_index<Index>, int> = 0>
     std::optional<element> get(Index index) const {
@@ -192,15 +222,68 @@ public:
         return value ? *value : throw absent("member \"" + std::string(key) + '"');
     }
     element operator[](const char *key) const { return (*this)[std::string_view(key)]; }
+    element operator[](std::nullptr_t) const = delete;
     template <class Index, std::enable_if_t<is_index<Index>, int> = 0>
     element operator[](Index index) const {
         const std::optional<element> value = get(index);
         return value ? *value : throw absent("element " + std::to_string(index));
     }
 
-    /* The value that a JSON Pointer (RFC 6901) names in this one, as "/sizes/0". */
+    bool contains(std::string_view key) const { return get(key).has_value(); }
+
+    /* The value of a member by as(), or the fallback if there is none. Its type is the fallback's,
+     * of a literal std::string_view. */
+    template <class T> auto value_or(std::string_view key, const T &fallback) const {
+        constexpr bool is_kept = std::is_arithmetic_v<T> || std::is_same_v<T, std::string>;
+        using type = std::conditional_t<is_kept, T, std::string_view>;
+        const std::optional<element> value = get(key);
+        return value ? value->template as<type>() : type(fallback);
+    }
+
+    /* The value that a JSON Pointer (RFC 6901) names in this one, as "/sizes/0". Throws
+     * std::invalid_argument if the pointer is malformed. */
     std::optional<element> pointer(std::string_view pointer) const {
-        return named(simd_json_pointer, pointer);
+        const std::optional<element> value = named(simd_json_pointer, pointer);
+        if (!value)
+            require_pointer(pointer);
+        return value;
+    }
+
+    /* Whether two values are the same: integers by their values, other numbers as they are written,
+     * arrays and objects by their members in order. */
+    friend bool operator==(const element &left, const element &right) {
+        const size_t count = simd_json_next(&left.node(), 0);
+        bool is_same = count == simd_json_next(&right.node(), 0);
+        for (size_t i = 0; is_same && i < count; i++)
+            is_same = left.ahead(i).is_like(right.ahead(i));
+        return is_same;
+    }
+    friend bool operator!=(const element &left, const element &right) { return !(left == right); }
+
+    /* Whether a value is a scalar: a truth value, the integer, a number whose nearest double it is,
+     * the string without its escapes, or null. `root["id"] == 7`, and with `get` also if there may
+     * be none: `root.get("id") == 7`. A null pointer is no string. std::ranges::find takes a scalar
+     * with a projection: `find(root.array(), 7, &simd_json::element::as_int64)`. */
+    template <class T, std::enable_if_t<is_scalar<T>, int> = 0>
+    friend bool operator==(const element &value, const T &scalar) {
+        if constexpr (std::is_same_v<T, std::nullptr_t>)
+            return value.is_null();
+        else if constexpr (std::is_pointer_v<T>)
+            return scalar ? value.as_string() == std::string_view(scalar) : false;
+        else
+            return value.template read<T>() == scalar;
+    }
+    template <class T, std::enable_if_t<is_scalar<T>, int> = 0>
+    friend bool operator==(const T &scalar, const element &value) {
+        return value == scalar;
+    }
+    template <class T, std::enable_if_t<is_scalar<T>, int> = 0>
+    friend bool operator!=(const element &value, const T &scalar) {
+        return !(value == scalar);
+    }
+    template <class T, std::enable_if_t<is_scalar<T>, int> = 0>
+    friend bool operator!=(const T &scalar, const element &value) {
+        return !(value == scalar);
     }
 
 private:
@@ -235,6 +318,29 @@ private:
 #endif
     static std::out_of_range absent(const std::string &what) {
         return std::out_of_range("simd_json: no " + what);
+    }
+    std::out_of_range other(const std::string &wanted) const {
+        return absent(wanted + ", but " + simd_json_kind_text(kind()));
+    }
+    /* The value as the widest type of T's kind, or nothing. */
+    template <class T> auto read() const {
+        if constexpr (std::is_same_v<T, bool>)
+            return as_bool();
+        else if constexpr (std::is_floating_point_v<T>)
+            return as_double();
+        else if constexpr (std::is_unsigned_v<T>)
+            return as_uint64();
+        else if constexpr (std::is_integral_v<T>)
+            return as_int64();
+        else
+            return as_string();
+    }
+    /* Whether two nodes are alike; -0 is 0. */
+    bool is_like(const element &other) const {
+        if (const std::optional<int64_t> integer = as_int64())
+            return integer == other.as_int64();
+        return kind() == other.kind() && node_->len == other.node_->len
+               && (holds_text() ? text() == other.text() : node_->value == other.node_->value);
     }
     std::string_view text() const {
         return {document_->text + (holds_text() ? node_->value : 0), holds_text() ? node_->len : 0};
@@ -305,9 +411,10 @@ public:
         size_t left_ = 0;
     };
     members() = default;
-    explicit members(element of)
-        : first_(of.beneath()),
-          len_(of.kind() == (is_object ? SIMD_JSON_OBJECT : SIMD_JSON_ARRAY) ? of.node().len : 0) {}
+    explicit members(element of) : first_(of.beneath()), len_(of.node().len) {
+        if (of.kind() != (is_object ? SIMD_JSON_OBJECT : SIMD_JSON_ARRAY))
+            throw of.other(is_object ? "object" : "array");
+    }
     iterator begin() const { return {first_, len_}; }
     iterator end() const { return {first_, 0}; }
     size_t size() const { return len_; }
@@ -319,47 +426,13 @@ private:
 
 inline array_view element::array() const { return array_view(*this); }
 inline object_view element::object() const { return object_view(*this); }
+inline size_t element::size() const { return is_object() ? object().size() : array().size(); }
 
 inline std::optional<element> element::nth(size_t index) const {
-    for (element value : array())
+    for (element value : is_array() ? array() : array_view())
         if (index-- == 0)
             return value;
     return std::nullopt;
-}
-
-/* Whether a value is a scalar: a truth value, the integer, a number whose nearest double it is, the
- * string without its escapes, or null. `root["id"] == 7`, and with `get` also if there may be none:
- * `root.get("id") == 7`. */
-template <class T>
-inline constexpr bool is_scalar = std::is_arithmetic_v<T> || std::is_same_v<T, std::nullptr_t>
-                                  || std::is_convertible_v<const T &, std::string_view>;
-
-template <class T, std::enable_if_t<is_scalar<T>, int> = 0>
-bool operator==(const element &value, const T &scalar) {
-    if constexpr (std::is_same_v<T, std::nullptr_t>)
-        return value.is_null();
-    else if constexpr (std::is_same_v<T, bool>)
-        return value.as_bool() == scalar;
-    else if constexpr (std::is_floating_point_v<T>)
-        return value.as_double() == scalar;
-    else if constexpr (std::is_unsigned_v<T>)
-        return value.as_uint64() == scalar;
-    else if constexpr (std::is_integral_v<T>)
-        return value.as_int64() == scalar;
-    else
-        return value.as_string() == std::string_view(scalar);
-}
-template <class T, std::enable_if_t<is_scalar<T>, int> = 0>
-bool operator==(const T &scalar, const element &value) {
-    return value == scalar;
-}
-template <class T, std::enable_if_t<is_scalar<T>, int> = 0>
-bool operator!=(const element &value, const T &scalar) {
-    return !(value == scalar);
-}
-template <class T, std::enable_if_t<is_scalar<T>, int> = 0>
-bool operator!=(const T &scalar, const element &value) {
-    return !(value == scalar);
 }
 
 /* A value as a document, by simd_json_print: without whitespace, or SIMD_JSON_PRETTY. Numbers keep
@@ -386,10 +459,6 @@ inline std::ostream &operator<<(std::ostream &out, const element &value) {
  * be moved, and its elements stay valid; the one that it was moved from is closed, and rejects each
  * text with SIMD_JSON_PARSER_CLOSED. */
 class parser {
-    /* A string that may be moved from, and nothing that only converts to one. */
-    template <class String>
-    using if_string = std::enable_if_t<std::is_same_v<String, std::string>, int>;
-
 public:
     parser() : parser(1024) {}
     explicit parser(size_t max_depth) : state_(std::make_unique<state>()) {
@@ -405,42 +474,26 @@ public:
     }
     element parse(std::string_view) && = delete;
 
-    /* The same without a copy. The string is OVERWRITTEN, and strings and literals of the document
-     * are in it: it must not be moved or changed as long as elements are used. An error has its
-     * index, but no line and no reason, since the text is lost; check() has them, or a copy. */
-    element parse(std::string &lent) & {
-        simd_json_place place;
-        check_status(try_parse(lent, place), place);
-        return root();
-    }
-
-    /* The same of a string that is moved into the parser, which keeps it with the document. */
-    template <class String, if_string<String> = 0> element parse(String &&owned) & {
-        simd_json_place place;
-        check_status(try_parse(std::move(owned), place), place);
-        return root();
-    }
-
-    /* The same, but throws only std::bad_alloc: after SIMD_JSON_OK root() is the document. After
-     * another status of a copy error(status, place, text) has line, column and reason. */
+    /* The same, but throws only std::bad_alloc: after SIMD_JSON_OK root() is the document, after
+     * another status error(status, place, text) has line, column and reason. */
     int32_t try_parse(std::string_view text, simd_json_place &place) {
         const int32_t status = take(text, place);
         return status != SIMD_JSON_OK
                    ? status
                    : state_->parse(state_->input.get(), text.size(), place);
     }
-    int32_t try_parse(std::string &lent, simd_json_place &place) {
+
+    /* Parses without a copy, which takes 6 to 20 % of the time. The string is OVERWRITTEN, and
+     * strings and literals of the document are in it: it must not be moved or changed as long as
+     * elements are used. An error has its index, but no line and column, since the text is lost. */
+    element parse_in_place(std::string &text) & {
+        simd_json_place place;
         state *const in = begin(place);
-        return in ? in->parse(lent.data(), lent.size(), place) : SIMD_JSON_PARSER_CLOSED;
+        check_status(in ? in->parse(text.data(), text.size(), place) : SIMD_JSON_PARSER_CLOSED,
+                     place);
+        return root();
     }
-    template <class String, if_string<String> = 0>
-    int32_t try_parse(String &&owned, simd_json_place &place) {
-        state *const in = begin(place);
-        if (!in)
-            return SIMD_JSON_PARSER_CLOSED;
-        in->owned = std::move(owned);
-        return in->parse(in->owned.data(), in->owned.size(), place);
-    }
+    element parse_in_place(std::string &) && = delete;
 
     /* Throws the first error of a text that is not a document, or std::bad_alloc. The text is not
      * copied. The document that was parsed before ends, as at each of these calls. */
@@ -457,6 +510,7 @@ public:
         std::string kept, kept_pointer;
         own(text, kept);
         own(pointer, kept_pointer);
+        require_pointer(pointer);
         /* That is enough for compact text. */
         return printed(text.size() <= UINT32_MAX ? text.size() : 0, [&](auto &out, auto &needed) {
             simd_json_place place;
@@ -472,28 +526,36 @@ public:
     }
 
     /* Values on demand: keeps a copy of the text, instead of the one before, for pointer(). Only
-     * its size and encoding are checked, and that strings end and contain no byte below 0x20:
-     * throws such an error, or std::bad_alloc. */
+     * its size and encoding are checked, that strings end and contain no byte below 0x20, and all
+     * of one word or number: throws such an error, or std::bad_alloc. */
     void scan(std::string_view text) { call(text, &parser::try_scan); }
 
-    /* The value that a JSON Pointer (RFC 6901) names in the text that is kept, or nothing. It is a
-     * document of the parser, so it is valid until the next call. Only the value and what is on the
-     * way to it are checked: it may also be found in a text that is not a document. A malformed
-     * word or number is nothing. Throws the first error of a string, an array or an object, whose
-     * places count from its first byte, or std::bad_alloc. */
+    /* The value that a JSON Pointer (RFC 6901) names in the text that is kept, or nothing if the
+     * text is a document without it. It is a document of the parser, so it is valid until the next
+     * call. Only the value and what is on the way to it are checked: it may also be found in a text
+     * that is not a document. If it is absent or malformed all is checked, once: throws the first
+     * error of the text, whose places count from the first byte of its root, or std::bad_alloc;
+     * and std::invalid_argument if the pointer is malformed. */
     std::optional<element> pointer(std::string_view pointer) & {
         std::string kept;
         own(pointer, kept);
-        const std::optional<size_t> len = state_ ? state_->find(pointer) : std::nullopt;
-        if (!len)
-            return std::nullopt;
+        require_pointer(pointer);
         simd_json_place place;
-        const int32_t status = begin(place)->parse(state_->input.get(), *len, place);
-        if (status != SIMD_JSON_OK) { /* which has overwritten the text */
-            state_->find(pointer);
-            check_status(status, place, std::string_view(state_->input.get(), *len));
+        state *const in = begin(place);
+        const std::optional<size_t> len = in ? in->find(pointer) : std::nullopt;
+        const int32_t status = len ? in->parse(in->input.get(), *len, place) : SIMD_JSON_NO_VALUE;
+        if (status == SIMD_JSON_OK)
+            return root();
+        if (status == SIMD_JSON_OUT_OF_MEMORY)
+            throw std::bad_alloc();
+        if (in && in->unchecked) {
+            const std::optional<size_t> root = in->find("");
+            if (!root) /* it has no end */
+                throw error(SIMD_JSON_SYNTAX, nowhere);
+            check(std::string(in->input.get(), *root).append(*root != in->unchecked, '?'));
+            in->unchecked = 0;
         }
-        return root();
+        return std::nullopt;
     }
     std::optional<element> pointer(std::string_view) && = delete;
 
@@ -516,7 +578,7 @@ private:
         element::lent document;
         std::unique_ptr<char[]> input; /* a copy of a text */
         size_t capacity = 0;
-        std::string owned; /* what was moved in, until the next text */
+        size_t unchecked = 0; /* the scanned text's length, unless it is known to be a document */
 
         state() = default;
         state(const state &) = delete;
@@ -550,7 +612,6 @@ private:
         void forget() {
             static_cast<simd_json_document &>(document) = {};
             document.parses++;
-            std::string().swap(owned);
         }
         int32_t parse(char *text, size_t len, simd_json_place &place) {
             return simd_json_parser_parse(&parser, text, len, &document, &place);
@@ -587,7 +648,15 @@ private:
         return status;
     }
     int32_t try_scan(std::string_view text, simd_json_place &place) {
-        return read(simd_json_parser_scan, text, place);
+        const int32_t status = read(simd_json_parser_scan, text, place);
+        if (!state_)
+            return status;
+        const char blanks[] = " \t\n\r";
+        const size_t first = text.find_first_not_of(blanks);
+        const bool is_scanned = status == SIMD_JSON_OK;
+        state_->unchecked = is_scanned ? text.find_last_not_of(blanks) + 1 - first : 0;
+        const bool is_word = is_scanned && std::string_view("[{\"").find(text[first]) == text.npos;
+        return is_word ? try_check(text, place) : status;
     }
     /* Throws the error of a call with a text. */
     void call(std::string_view text, int32_t (parser::*of)(std::string_view, simd_json_place &)) {

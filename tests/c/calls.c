@@ -108,8 +108,8 @@ static void literals_checked(void) {
     simd_json_close(&parser);
 }
 
-// Where more text follows a document its position is the first byte of this text, and the error stays at the document's end, or
-// at a root scalar; worked by hand.
+// Where more text follows a document its position is the first byte of this text, with one kind, and the error stays at the
+// document's end, or at a root scalar; worked by hand.
 static void more_text_located(void) {
     static const struct {
         const char *input;
@@ -125,10 +125,35 @@ static void more_text_located(void) {
         char words[SIMD_JSON_REASON_MAX];
         size_t needed, len = strlen(input);
         simd_json_place place;
-        simd_json_position at = {7, 7, 7};
+        simd_json_position at = {7, 7, 7, 7};
         WANT(simd_json_check(input, len, 8, &place) == rows[i].status && place.index == rows[i].index, input);
-        WANT(simd_json_location(input, len, rows[i].status, &place, &at, words, sizeof words, &needed) == SIMD_JSON_OK, input);
+        WANT(simd_json_location(input, len, 1, rows[i].status, &place, &at, words, sizeof words, &needed) == SIMD_JSON_OK, input);
         WANT(at.byte == rows[i].byte && at.line == rows[i].line && at.column == rows[i].column, input);
+        WANT(at.status == SIMD_JSON_TRAILING_DATA, input);
+    }
+}
+
+// What is open at the place of an error, in a record that begins in line 7 of its file; worked by hand.
+static void openings_located(void) {
+    static const struct {
+        const char *input, *reason;
+        size_t line, column;
+    } rows[] = {
+        {"{\"a\": \"b,\n \"c\": 1}", "a line feed in the string that begins at 7:7", 7, 10},
+        {"[\n\t\"\303\251\\\"\t\"]", "a tab in the string that begins at 8:2", 8, 6},
+        {"[\"}\",\n {\"\303\251\":[]}, {\"]\": 1", "the input ends after this, within the object that begins at 8:12", 8, 18},
+        {"[[],", "the input ends after this, within the array that begins at 7:1", 7, 4},
+    };
+    for (size_t i = 0; i < sizeof rows / sizeof *rows; i++) {
+        const char *input = rows[i].input;
+        char words[SIMD_JSON_REASON_MAX];
+        size_t needed, len = strlen(input);
+        simd_json_place place;
+        simd_json_position at;
+        WANT(simd_json_check(input, len, 8, &place) == SIMD_JSON_SYNTAX, input);
+        WANT(simd_json_location(input, len, 7, SIMD_JSON_SYNTAX, &place, &at, words, sizeof words, &needed) == SIMD_JSON_OK, input);
+        WANT(at.line == rows[i].line && at.column == rows[i].column && at.status == SIMD_JSON_SYNTAX, input);
+        WANT(needed == strlen(rows[i].reason) && memcmp(words, rows[i].reason, needed) == 0, input);
     }
 }
 
@@ -146,7 +171,22 @@ static void kinds_named(void) {
     WANT(simd_json_status_name(19, out, sizeof out) == 13 && memcmp(out, "TooLittleRoom", 13) == 0, "status 19");
     WANT(simd_json_status_name(20, out, sizeof out) == 12 && memcmp(out, "ParserClosed", 12) == 0, "status 20");
     WANT(simd_json_status_name(21, out, sizeof out) == 7 && memcmp(out, "NoValue", 7) == 0, "status 21");
-    WANT(simd_json_status_name(22, out, sizeof out) == 0 && simd_json_status_name(-1, out, sizeof out) == 0, "no status");
+    WANT(simd_json_status_name(22, out, sizeof out) == 14 && memcmp(out, "InvalidPointer", 14) == 0, "status 22");
+    WANT(simd_json_status_name(23, out, sizeof out) == 0 && simd_json_status_name(-1, out, sizeof out) == 0, "no status");
+}
+
+// The header's texts are the library's names.
+static void texts_are_names(void) {
+    static const int32_t others[] = {INT32_MIN, -2, -1, 23, 24, 99, INT32_MAX};
+    char out[SIMD_JSON_NAME_MAX];
+    for (int32_t i = 0; i < 23 + 7; i++) {
+        int32_t number = i < 23 ? i : others[i - 23];
+        const char *status = simd_json_status_text(number), *kind = simd_json_kind_text((uint32_t)number);
+        size_t len = simd_json_status_name(number, out, sizeof out);
+        WANT(strlen(status) == len && memcmp(status, out, len) == 0 && (len == 0) == (i >= 23), status);
+        len = simd_json_kind_name((uint32_t)number, out, sizeof out);
+        WANT(strlen(kind) == len && memcmp(kind, out, len) == 0 && (len == 0) == (i >= 10), kind);
+    }
 }
 
 // Numbers as they are written: the compiler rounds the same ones for itself, and strtod random ones. Those that a document can't
@@ -291,12 +331,12 @@ static void keys_found(void) {
     simd_json_close(&parser);
 }
 
-// The longest reason has 54 bytes: each status, with each byte where an error is, alone and behind others.
+// The longest reason here has 82 bytes, where a container begins in the last line of 20 digits: each status, with each byte where an error is, alone and behind others.
 static void reasons_fit(void) {
     static const char *const before[] = {"", "[", "[1", "{", "{\"a\"", "{\"a\":1", "{\"a\":1,", "\"\\", "[12", "\"\\u"};
     char input[16], words[SIMD_JSON_REASON_MAX];
     size_t longest = 0;
-    for (int status = 0; status < 23; status++)
+    for (int status = 0; status < 24; status++)
         for (int c = 0; c < 256; c++)
             for (size_t i = 0; i < 4 * sizeof before / sizeof *before; i++) {
                 size_t len = fresh(input, before[i / 4]), needed = 77;
@@ -304,11 +344,11 @@ static void reasons_fit(void) {
                 const simd_json_place places[] = {
                     {0, SIMD_JSON_NO_CHARACTER}, {0, (unsigned char)*input}, {len, (uint32_t)c}, {len - (len > 0), (uint32_t)c}};
                 simd_json_position at;
-                WANT(simd_json_location(input, len + 1, status, &places[i % 4], &at, words, sizeof words, &needed) == SIMD_JSON_OK, "fits");
+                WANT(simd_json_location(input, len + 1, SIZE_MAX, status, &places[i % 4], &at, words, sizeof words, &needed) == SIMD_JSON_OK, "fits");
                 WANT(needed <= SIMD_JSON_REASON_MAX, "fits");
                 if (needed > longest) longest = needed;
             }
-    WANT(longest == 54, "fits");
+    WANT(longest == 82, "fits");
 }
 
 // For each limit; and a document with two open containers is then one, or too deep.
@@ -336,9 +376,13 @@ static void values_printed(void) {
         {" [ 7 ] ", "", "[7]", "[\n  7\n]", SIMD_JSON_OK},
         {"{\"\\u00e9/~\": \"\\n\"}", "/\303\251~1~0", "\"\\n\"", "\"\\n\"", SIMD_JSON_OK},
         {"[7]", "/1", 0, 0, SIMD_JSON_NO_VALUE},
-        {"[7]", "0", 0, 0, SIMD_JSON_NO_VALUE},
+        {"[7]", "0", 0, 0, SIMD_JSON_INVALID_POINTER},
+        {"{\"a\":7}", "/a/~2", 0, 0, SIMD_JSON_INVALID_POINTER},
+        {"{\"a\":7}", "/~", 0, 0, SIMD_JSON_INVALID_POINTER},
         {"{\"a\":7}", "/\377", 0, 0, SIMD_JSON_NO_VALUE},
         {"[7,]", "/0", 0, 0, SIMD_JSON_INTERNAL_ERROR},
+        {"[7,]", "0", 0, 0, SIMD_JSON_INTERNAL_ERROR},
+        {"[7,]", "\377", 0, 0, SIMD_JSON_INVALID_POINTER},
         {"[7,]", "/9", 0, 0, SIMD_JSON_INTERNAL_ERROR},
         {"[7,]", "/\377", 0, 0, SIMD_JSON_NO_VALUE},
         {"[\"\\u0041\"]", "/\377", 0, 0, SIMD_JSON_NO_VALUE},
@@ -398,6 +442,42 @@ static void tapes_lent(void) {
     simd_json_close(&parser);
 }
 
+// Which pointers are malformed (RFC 6901, section 3), whatever they would lead to, and that they lead nowhere; by hand.
+static void pointers_malformed(void) {
+    static const struct {
+        const char *pointer;
+        bool is_formed;
+    } rows[] = {{"", true}, {"/", true}, {"//", true}, {"/~0", true}, {"/~1", true}, {"/~01", true}, {"/~0~1/~1~0", true},
+                {"/\377", true}, {"/a b\n", true}, {"0", false}, {"a", false}, {"~0", false}, {" /", false}, {"#/a", false},
+                {"$.a", false}, {"/~", false}, {"/a~", false}, {"/~2", false}, {"/~/0", false}, {"/~~0", false}, {"/0/~", false},
+                {"/a/b/~a", false}, {"/~a/a", false}, {"/9~", false}, {"/\377/~", false}, {"~", false}, {"/~1~", false}};
+    char copy[32], out[32];
+    simd_json_document d;
+    simd_json_place place;
+    simd_json_parser parser = {0};
+    WANT(simd_json_open(&parser, 8) == SIMD_JSON_OK, "opened");
+    for (size_t i = 0; i < 3 * sizeof rows / sizeof *rows; i++) {
+        static const char *const documents[] = {"[[3]]", "{\"b\":7}", "7"};
+        const char *input = documents[i % 3], *pointer = rows[i / 3].pointer;
+        size_t pointer_len = strlen(pointer), needed = 77, len = fresh(copy, input);
+        simd_json_found found = {77, 77};
+        int32_t why = rows[i / 3].is_formed ? SIMD_JSON_NO_VALUE : SIMD_JSON_INVALID_POINTER;
+        WANT(simd_json_is_pointer(pointer, pointer_len) == rows[i / 3].is_formed, pointer);
+        if (pointer_len == 0) continue;
+        WANT(simd_json_parser_scan(&parser, input, len, &place) == SIMD_JSON_OK, input);
+        WANT(simd_json_parser_pointer(&parser, pointer, pointer_len, &found, out, sizeof out) == why, pointer);
+        WANT(found.kind == 77 && found.len == 77, pointer);
+        WANT(simd_json_parser_print(&parser, copy, len, pointer, pointer_len, 0, out, sizeof out, &needed, &place) == why, pointer);
+        WANT(needed == 77, pointer);
+        WANT(simd_json_parser_parse(&parser, copy, fresh(copy, input), &d, &place) == SIMD_JSON_OK, input);
+        WANT(simd_json_pointer(d.nodes, d.nodes_len, d.text, d.text_len, 0, pointer, pointer_len) == SIMD_JSON_NO_NODE, pointer);
+        WANT(simd_json_parser_scan(&parser, "\"", 1, &place) == SIMD_JSON_SYNTAX, "nothing kept");
+        WANT(simd_json_parser_pointer(&parser, pointer, pointer_len, &found, out, sizeof out) == why, pointer);
+    }
+    WANT(simd_json_is_pointer(0, 0) && !simd_json_is_pointer("/~\0", 3) && simd_json_is_pointer("\0" + 1, 0), "empty");
+    simd_json_close(&parser);
+}
+
 // Values as they are written, of documents and of inputs that are none, by pointers that lead to one and that do not.
 static void values_found(void) {
     static const struct {
@@ -419,7 +499,6 @@ static void values_found(void) {
         {"[[1, 2],[1,2]]", "/0", "[1, 2]", SIMD_JSON_ARRAY},
         {"[[1, 2],[1,2]]", "/1", "[1,2]", SIMD_JSON_ARRAY},
         {"[7]", "/1", 0, 0},
-        {"[7]", "0", 0, 0},
         {"{\"a\":7}", "/\377", 0, 0},
         {"[7,]", "/0", "7", SIMD_JSON_U64},
         {"[7,]", "/1", 0, 0},
@@ -523,6 +602,49 @@ static void nodes_printed(void) {
     simd_json_close(&parser);
 }
 
+// The number of each node, of whatever kind: the compiler rounds the same ones for itself.
+static void numbers_read(void) {
+    static const char document[] =
+        "[0, -0, 7, -7, 9007199254740993, 9223372036854775807, 9223372036854775808, 18446744073709551615, -9223372036854775808,"
+        " 18446744073709551616, -9223372036854775809, 340282366920938463463374607431768211455, 1.0, -2.5e-1, 1e400, 5e-324,"
+        " null, true, false, \"1\", [2], {\"3\": 4}]";
+    enum { NO = SIMD_JSON_NO_VALUE, BAD = SIMD_JSON_INVALID_NUMBER };
+    static const struct {
+        int status, int_status;
+        double number;
+        int64_t integer;
+    } rows[] = {{NO, NO, 0, 0}, {0, 0, 0, 0}, {0, 0, 0, 0}, {0, 0, 7, 7}, {0, 0, -7, -7}, {0, 0, 0x1p53, 9007199254740993},
+                {0, 0, 0x1p63, INT64_MAX}, {0, BAD, 0x1p63, 0}, {0, BAD, 0x1p64, 0}, {0, 0, -0x1p63, INT64_MIN},
+                {0, BAD, 0x1p64, 0}, {0, BAD, -0x1p63, 0}, {0, BAD, 0x1p128, 0}, {0, BAD, 1, 0}, {0, BAD, -0.25, 0},
+                {0, BAD, INFINITY, 0}, {0, BAD, 0x1p-1074, 0}, {NO, NO, 0, 0}, {NO, NO, 0, 0}, {NO, NO, 0, 0}, {NO, NO, 0, 0},
+                {NO, NO, 0, 0}, {0, 0, 2, 2}, {NO, NO, 0, 0}, {NO, NO, 0, 0}, {0, 0, 4, 4}};
+    enum { NODES = sizeof rows / sizeof *rows };
+    char copy[512];
+    simd_json_document d;
+    simd_json_place place;
+    simd_json_parser parser = {0};
+    WANT(simd_json_open(&parser, 4) == SIMD_JSON_OK, "opened");
+    WANT(simd_json_parser_parse(&parser, copy, fresh(copy, document), &d, &place) == SIMD_JSON_OK && d.nodes_len == NODES, document);
+    for (size_t at = 0; at < NODES; at++) {
+        double number = 7.5;
+        int64_t integer = 75;
+        WANT(simd_json_number(d.nodes, NODES, d.text, d.text_len, at, &number) == rows[at].status, document);
+        WANT(number == (rows[at].status ? 7.5 : rows[at].number), document);
+        WANT(simd_json_int64(d.nodes, NODES, at, &integer) == rows[at].int_status, document);
+        WANT(integer == (rows[at].int_status ? 75 : rows[at].integer), document);
+    }
+    static const size_t others[] = {NODES, NODES + 1, SIZE_MAX - 1, SIMD_JSON_NO_NODE};
+    for (size_t i = 0; i < 4; i++) {
+        double number = 7.5;
+        int64_t integer = 75;
+        WANT(simd_json_number(d.nodes, NODES, d.text, d.text_len, others[i], &number) == NO && number == 7.5, "no node");
+        WANT(simd_json_int64(d.nodes, NODES, others[i], &integer) == NO && integer == 75, "no node");
+        WANT(simd_json_number(0, 0, 0, 0, others[i], &number) == NO && number == 7.5, "no nodes");
+        WANT(simd_json_int64(0, 0, others[i], &integer) == NO && integer == 75, "no nodes");
+    }
+    simd_json_close(&parser);
+}
+
 // Integers at the ends of each range, by the compiler's own arithmetic, and what is none.
 static void integers(void) {
     static const struct {
@@ -565,13 +687,13 @@ static void nodes_located(void) {
     WANT(simd_json_open(&parser, 4) == SIMD_JSON_OK, "opened");
     WANT(simd_json_parser_parse(&parser, copy, fresh(copy, input), &lent, &place) == SIMD_JSON_OK && lent.nodes_len == NODES, input);
     for (size_t node = 0; node < NODES; node++) {
-        simd_json_position at = {7, 7, 7};
+        simd_json_position at = {7, 7, 7, 7};
         WANT(simd_json_node_position(input, sizeof input - 1, node, &at) == SIMD_JSON_OK, input + rows[node].byte);
         WANT(at.byte == rows[node].byte && at.line == rows[node].line && at.column == rows[node].column, input + rows[node].byte);
     }
     static const size_t others[] = {NODES, NODES + 1, SIZE_MAX};
     for (size_t i = 0; i < 3; i++) {
-        simd_json_position at = {7, 7, 7};
+        simd_json_position at = {7, 7, 7, 7};
         WANT(simd_json_node_position(input, sizeof input - 1, others[i], &at) == SIMD_JSON_NO_VALUE && at.byte == 7, "no node");
         WANT(simd_json_node_position("\"", i < 2 ? i : 0, 0, &at) == SIMD_JSON_NO_VALUE && at.line == 7, "no document");
     }
@@ -595,13 +717,17 @@ int main(void) {
     parser_kept();
     literals_checked();
     more_text_located();
+    openings_located();
     values_printed();
     nodes_printed();
     integers();
+    numbers_read();
     nodes_located();
     tapes_lent();
     values_found();
     input_kept();
     kinds_named();
+    texts_are_names();
+    pointers_malformed();
     return wrong;
 }

@@ -38,6 +38,14 @@ static void lead(const simd_json_document *of, const char *text) {
     WANT(simd_json_get(of->nodes, NODES, text, of->text_len, 0, "b", 1) == 12);
 }
 
+// The number at an index, or it stays as it is.
+static void read_number(const simd_json_node *nodes, size_t len, const char *text, size_t text_len, size_t at) {
+    double number = 7;
+    int64_t integer = 7;
+    WANT(simd_json_number(nodes, len, text, text_len, at, &number) == SIMD_JSON_OK || number == 7);
+    WANT(simd_json_int64(nodes, len, at, &integer) == SIMD_JSON_OK || integer == 7);
+}
+
 // The nodes with texts of which each byte is another, in memory that has no more: what is found is a node or none.
 static void change(void) {
     char *page = map();
@@ -59,6 +67,7 @@ static void change(void) {
             size_t needed = 777;
             int32_t printed = simd_json_print(of.nodes, NODES, text, of.text_len, at, (uint32_t)byte % 2, out, sizeof out, &needed);
             WANT(printed == SIMD_JSON_OK ? needed <= sizeof out : printed == SIMD_JSON_TOO_LITTLE_ROOM && needed > sizeof out);
+            read_number(of.nodes, NODES, text, of.text_len, at);
             double number = 7;
             if (of.nodes[at].kind == SIMD_JSON_DECIMAL) {
                 int32_t status = simd_json_double(text + of.nodes[at].value, of.nodes[at].len, &number);
@@ -85,6 +94,7 @@ static void invent(void) {
             nodes[i] = (simd_json_node){(uint32_t)(random >> 33) % 11, (uint32_t)(random >> 60 == 0 ? random >> 32 : (random >> 36) % 10), value};
             text[i] = (char)(random >> 20);
         }
+        read_number(nodes, len, text, len, (random >> 50) % MOST);
         int32_t status = simd_json_print(nodes, len, text, len, (random >> 50) % MOST, (uint32_t)round % 2, out, 64, &needed);
         WANT(status == SIMD_JSON_NO_VALUE || status == SIMD_JSON_OUT_OF_MEMORY ? needed == 777
              : status == SIMD_JSON_OK                                       ? needed <= 64

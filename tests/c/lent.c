@@ -146,27 +146,27 @@ static void locations(void) {
         lent input = lend_copy(wrong, sizeof wrong - 1), out = lend(room);
         simd_json_position at;
         size_t needed = 0;
-        int status = simd_json_location(input.at, sizeof wrong - 1, SIMD_JSON_EXPECTED_ARRAY_CONTENT, &place, &at, out.at, room, &needed);
+        int status = simd_json_location(input.at, sizeof wrong - 1, 1, SIMD_JSON_EXPECTED_ARRAY_CONTENT, &place, &at, out.at, room, &needed);
         int fits = room >= strlen(reason);
         WANT(status == (fits ? SIMD_JSON_OK : SIMD_JSON_TOO_LITTLE_ROOM) && needed == strlen(reason));
-        WANT(at.byte == 10 && at.line == 2 && at.column == 6);
+        WANT(at.byte == 10 && at.line == 2 && at.column == 6 && at.status == SIMD_JSON_EXPECTED_ARRAY_CONTENT);
         WANT(!fits || memcmp(out.at, reason, needed) == 0);
         give_back(input, sizeof wrong - 1);
         give_back(out, fits ? needed : 0);
     }
     static const int32_t others[] = {SIMD_JSON_OK, SIMD_JSON_TOO_LITTLE_ROOM, SIMD_JSON_PARSER_CLOSED, -1, 21, 99, INT32_MIN};
     for (size_t i = 0; i < sizeof others / sizeof *others; i++) {
-        simd_json_position at = {7, 7, 7};
+        simd_json_position at = {7, 7, 7, 7};
         size_t needed = 7;
-        WANT(simd_json_location(wrong, sizeof wrong - 1, others[i], &place, &at, 0, 0, &needed) == SIMD_JSON_OK);
-        WANT(needed == 0 && at.byte == 0 && at.line == 0 && at.column == 0);
+        WANT(simd_json_location(wrong, sizeof wrong - 1, 1, others[i], &place, &at, 0, 0, &needed) == SIMD_JSON_OK);
+        WANT(needed == 0 && at.byte == 0 && at.line == 0 && at.column == 0 && at.status == SIMD_JSON_OK);
     }
     const simd_json_place none = {0, SIMD_JSON_NO_CHARACTER};
-    simd_json_position at = {7, 7, 7};
+    simd_json_position at = {7, 7, 7, 7};
     char words[SIMD_JSON_REASON_MAX];
     size_t needed = 7;
-    WANT(simd_json_location(wrong, sizeof wrong - 1, SIMD_JSON_OUT_OF_MEMORY, &none, &at, words, sizeof words, &needed) == SIMD_JSON_OK);
-    WANT(needed == 13 && memcmp(words, "out of memory", needed) == 0 && at.byte == 0 && at.line == 1 && at.column == 1);
+    WANT(simd_json_location(wrong, sizeof wrong - 1, 1, SIMD_JSON_OUT_OF_MEMORY, &none, &at, words, sizeof words, &needed) == SIMD_JSON_OK);
+    WANT(needed == 13 && memcmp(words, "out of memory", needed) == 0 && at.byte == 0 && at.line == 1 && at.column == 1 && at.status == SIMD_JSON_OUT_OF_MEMORY);
 }
 
 // Nodes, texts and pointers of each length, and from each node; and nodes that are no document's: nothing outside is read, and

@@ -52,7 +52,7 @@ static int check_deep(void) { return simd_json_check(deep, sizeof deep - 1, 100,
 static int location(void) {
     const simd_json_place at = {1, '1'};
     simd_json_position position;
-    return simd_json_location(document, sizeof document - 1, SIMD_JSON_INTERNAL_ERROR, &at, &position, out, 64, &needed);
+    return simd_json_location(document, sizeof document - 1, 1, SIMD_JSON_INTERNAL_ERROR, &at, &position, out, 64, &needed);
 }
 // The nodes of `deep`, and of a string in it.
 static int printed(void) {
@@ -67,7 +67,7 @@ static int printed(void) {
     return status;
 }
 static int node_located(void) {
-    simd_json_position position = {7, 7, 7};
+    simd_json_position position = {7, 7, 7, 7};
     int status = simd_json_node_position(document, sizeof document - 1, 3, &position);
     WANT(status == SIMD_JSON_OK ? position.byte == 4 && position.column == 5 : position.byte == 7);
     place = (simd_json_place){0, SIMD_JSON_NO_CHARACTER};

@@ -15,12 +15,13 @@ int main() {
     const auto root = parser.parse("[1]");
     std::string text("[1]");
     struct { simd_json::parser parser; } service{};
-    element (simd_json::parser::*const lend)(std::string &) & = &simd_json::parser::parse;
+    element (simd_json::parser::*const parse_in_place)(std::string &) & = &simd_json::parser::parse_in_place;
 #if CASE == 0
     const simd_json::element of(document);
     for (const auto element : parser.parse("[1]").array())
         std::printf("%u", element.kind());
-    return static_cast<int>(root[0].kind() + parser.root().kind() + (parser.*lend)(text).kind()
+    return static_cast<int>(root[0].kind() + parser.root().kind()
+                            + (parser.*parse_in_place)(text).kind()
                             + service.parser.parse("[1]").get(0)->kind());
 #elif CASE == 1
     const auto element = simd_json::parser().parse("[1]");
@@ -48,16 +49,24 @@ int main() {
 #elif CASE == 12
     const auto element = simd_json::parser().parse(std::string("[1]"));
 #elif CASE == 13
-    const auto element = (parser.*lend)(std::string("[1]"));
+    const auto element = parser.parse_in_place(std::string("[1]"));
 #elif CASE == 14
-    const auto element = (parser.*lend)(std::move(text));
+    const auto element = parser.parse_in_place(std::move(text));
 #elif CASE == 15
-    const auto element = (parser.*lend)(std::as_const(text));
+    const auto element = parser.parse_in_place(std::as_const(text));
 #elif CASE == 16
     const auto element = root.get(true);
 #elif CASE == 17
     const auto element = root.get(0.5);
 #elif CASE == 18
     const simd_json::parser shallow = 1;
+#elif CASE == 19
+    const auto element = simd_json::parser().parse_in_place(text);
+#elif CASE == 20
+    const auto element = root[nullptr];
+#elif CASE == 21
+    const auto element = root[static_cast<__int128>(1)];
+#elif CASE == 22
+    const auto element = root.get(static_cast<unsigned __int128>(1) << 64);
 #endif
 }

@@ -351,7 +351,7 @@ static void compare_nodes(struct bytes *wrong, const struct tape *tape, uint32_t
 static void compare_places(struct bytes *wrong, const struct tape *tape, const struct row *row) {
     enum { MOST = 200 };
     for (size_t i = 0; i <= tape->nodes_len && i < MOST; i++) {
-        simd_json_position at = {NOT_WRITTEN, NOT_WRITTEN, NOT_WRITTEN};
+        simd_json_position at = {NOT_WRITTEN, NOT_WRITTEN, NOT_WRITTEN, -1};
         int status = simd_json_node_position(row->input.at, row->input.len, i, &at);
         const simd_json_node *node = &tape->nodes[i];
         if (i == tape->nodes_len ? status != SIMD_JSON_NO_VALUE || at.byte != NOT_WRITTEN : status != SIMD_JSON_OK)
@@ -446,20 +446,21 @@ static void answer_indexes(struct bytes *to, const struct row *row) {
 // By the status of a check: first into no memory for the reason, and then into just as much as is needed.
 static void answer_locate(struct bytes *to, const struct row *row) {
     simd_json_place place;
-    simd_json_position position = {NOT_WRITTEN, NOT_WRITTEN, NOT_WRITTEN}, again = position;
+    simd_json_position position = {NOT_WRITTEN, NOT_WRITTEN, NOT_WRITTEN, -1}, again = position;
     size_t needed = NOT_WRITTEN, same = NOT_WRITTEN;
     int status = check(0, row, &place, to);
-    int found = simd_json_location(row->input.at, row->input.len, status, &place, &position, 0, 0, &needed);
+    int found = simd_json_location(row->input.at, row->input.len, 1, status, &place, &position, 0, 0, &needed);
     if (status == SIMD_JSON_OK) {
         put_text(to, "none");
-        if (found != SIMD_JSON_OK || position.byte || position.line || position.column || needed)
+        if (found != SIMD_JSON_OK || position.byte || position.line || position.column || position.status || needed)
             blame(to, "simd_json_location", " finds an error of a document");
         return;
     }
     struct bytes reason = {memory(needed), needed, needed};
     if (found != SIMD_JSON_TOO_LITTLE_ROOM || needed > SIMD_JSON_REASON_MAX) blame(to, "simd_json_location", " is wrong with no room");
-    found = simd_json_location(row->input.at, row->input.len, status, &place, &again, reason.at, needed, &same);
-    if (found != SIMD_JSON_OK || same != needed || memcmp(&position, &again, sizeof again) != 0)
+    found = simd_json_location(row->input.at, row->input.len, 1, status, &place, &again, reason.at, needed, &same);
+    if (found != SIMD_JSON_OK || same != needed || position.byte != again.byte || position.line != again.line
+        || position.column != again.column || position.status != again.status)
         blame(to, "simd_json_location", " is wrong with just enough room");
     put_number(to, position.byte);
     put_text(to, " ");
@@ -503,10 +504,18 @@ static void read_document(struct row row) {
     if (document.status != SIMD_JSON_OK || wrong.len) stop("no document", "simd_json_parser_parse");
 }
 
+// Why a pointer names nothing (RFC 6901, section 3), byte by byte.
+static int32_t why_none(const struct bytes *pointer) {
+    bool is_formed = pointer->len == 0 || pointer->at[0] == '/';
+    for (size_t i = 0; i < pointer->len; i++)
+        if (pointer->at[i] == '~') is_formed &= i + 1 < pointer->len && (pointer->at[i + 1] == '0' || pointer->at[i + 1] == '1');
+    return is_formed ? SIMD_JSON_NO_VALUE : SIMD_JSON_INVALID_POINTER;
+}
+
 // The same value, or none, is printed by the parser from the bytes.
 static void compare_at(struct bytes *wrong, simd_json_parser *parser, const struct bytes *pointer, const struct bytes *wanted) {
     struct print text = print_of(parser, SIMD_JSON_COMPACT, &document_row, pointer, wrong);
-    bool is_right = wanted ? text.status == SIMD_JSON_OK && is_same(&text.text, wanted) : text.status == SIMD_JSON_NO_VALUE;
+    bool is_right = wanted ? text.status == SIMD_JSON_OK && is_same(&text.text, wanted) : text.status == why_none(pointer);
     if (!is_right || !is_nowhere(text.place)) blame(wrong, "simd_json_parser_print", " differs");
     free(text.text.at);
 }
@@ -521,7 +530,7 @@ static void compare_found(struct bytes *wrong, simd_json_parser *parser, const s
         blame(wrong, "simd_json_parser_scan", " rejects a document");
     int status = simd_json_parser_pointer(parser, pointer->at, pointer->len, &found, out.at, out.len);
     if (at == SIMD_JSON_NO_NODE) {
-        if (status != SIMD_JSON_NO_VALUE || found.kind != NOT_WRITTEN || found.len != NOT_WRITTEN || !is_blank(&out, 0))
+        if (status != why_none(pointer) || found.kind != NOT_WRITTEN || found.len != NOT_WRITTEN || !is_blank(&out, 0))
             blame(wrong, "simd_json_parser_pointer", " finds a value");
     } else if (status != SIMD_JSON_OK || found.kind != document.nodes[at].kind || !is_blank(&out, found.len)) {
         blame(wrong, "simd_json_parser_pointer", " finds no such value");

@@ -155,12 +155,22 @@ static void name_their_place() {
     } catch (const simd_json::error &e) {
         EXPECT(e.line() == 2 && e.column() == 1 && e.byte() == 4 && e.index() == 2
                && e.character() == ']');
-        EXPECT(e.reason() == "more text after the document");
+        EXPECT(e.reason() == "more text after the document" && e.status() == SIMD_JSON_INTERNAL_ERROR);
+        EXPECT(e.what()
+               == std::string_view(
+                   "TrailingData at character 2, line 2 column 1: more text after the document"));
+    }
+    try {
+        parser.parse("{\"a\": \"b,\n \"c\": 1}");
+        EXPECT(false);
+    } catch (const simd_json::error &e) {
+        EXPECT(e.reason() == "a line feed in the string that begins at 1:7");
     }
     simd_json_place place;
     const int32_t status = parser.try_parse("[01]", place);
     const simd_json::error bare(status, place), located(status, place, "[01]");
-    EXPECT(bare.line() == 0 && bare.column() == 0 && bare.reason().empty());
+    EXPECT(bare.line() == 0 && bare.column() == 0);
+    EXPECT(bare.reason() == "parse(), which takes a copy, has line, column and reason");
     EXPECT(bare.what() == std::string_view("InvalidNumber at character 2"));
     EXPECT(located.line() == 1 && located.column() == 3 && !located.reason().empty());
     // Past the end there is a space; of a wrong escape the character is the byte after the backslash.
@@ -218,6 +228,81 @@ static void compare_with_scalars() {
            && root[7] != UINT64_MAX);
     EXPECT(root[8] != 7 && root[8] != "a" && root[8].get("a") == 7 && root[8].get("b") != 7);
     EXPECT(root != false && root != nullptr && simd_json::element() == nullptr);
+    const char *none = nullptr, *text = "aé";
+    EXPECT(root[0] != none && root[5] != none && none != root[0] && root[0] == text);
+}
+
+static void compare_with_each_other() {
+    simd_json::parser parser, other;
+    const auto root = parser.parse(
+        R"([0,-0,7,-7,"a","\u0061",[1,{"k":[]}],[1,{"k":[]}],{"k":1},{"l":1},{"k":2},1.0,1.00,1,null,true,false,[],{},[1],18446744073709551616,"18446744073709551616"])");
+    const auto same = other.parse(to_string(root, SIMD_JSON_PRETTY));
+    size_t i = 0;
+    for (const auto left : root.array()) {
+        size_t j = 0;
+        for (const auto right : same.array()) {
+            // -0 is 0, and an escape is its character; fractions are what is written.
+            const bool is_same = i == j || (i < 2 && j < 2) || (i / 2 == 2 && j / 2 == 2)
+                                 || (i / 2 == 3 && j / 2 == 3);
+            EXPECT((left == right) == is_same && (left != right) != is_same);
+            j++;
+        }
+        i++;
+    }
+    EXPECT(i == root.size() && root == same && root == root && root.get(6) == root[7]);
+    EXPECT(std::find(root.array().begin(), root.array().end(), root[7])->size() == 2);
+}
+
+static void are_read_as_types() {
+    simd_json::parser parser;
+    const auto root = parser.parse(
+        R"({"port":8080,"host":"h\u00e9","on":false,"ratio":2.5,"low":-129,"large":18446744073709551615,"tags":["a","b"],"none":null})");
+    EXPECT(root["port"].as<int>() == 8080 && root["port"].as<uint16_t>() == 8080 && root["port"].as<double>() == 8080.0);
+    EXPECT(root["host"].as<std::string>() == "hé" && root["host"].as<std::string_view>() == "hé");
+    EXPECT(!root["on"].as<bool>() && root["ratio"].as<float>() == 2.5f && root["low"].as<int16_t>() == -129);
+    EXPECT(root["large"].as<uint64_t>() == UINT64_MAX);
+    EXPECT(ends_by<std::out_of_range>([&] { root["port"].as<int8_t>(); }, "simd_json: no value of this type, but U64"));
+    EXPECT(ends_by<std::out_of_range>([&] { root["low"].as<int8_t>(); }) && ends_by<std::out_of_range>([&] { root["low"].as<unsigned>(); }));
+    EXPECT(ends_by<std::out_of_range>([&] { root["large"].as<int64_t>(); }) && ends_by<std::out_of_range>([&] { root["ratio"].as<int>(); }));
+    EXPECT(ends_by<std::out_of_range>([&] { root["host"].as<int>(); }, "simd_json: no value of this type, but String"));
+    EXPECT(ends_by<std::out_of_range>([&] { root["port"].as<bool>(); }) && ends_by<std::out_of_range>([&] { root["on"].as<int>(); }));
+    // A fallback is for what is absent, not for what is wrong.
+    EXPECT(root.value_or("port", 1) == 8080 && root.value_or("prot", 1) == 1 && root.value_or("on", true) == false);
+    EXPECT(root.value_or("host", "localhost") == "hé" && root.value_or("user", "nobody") == "nobody");
+    EXPECT(root.value_or("user", std::string("nobody")) == "nobody" && root.value_or("ratio", 1.0) == 2.5);
+    EXPECT(ends_by<std::out_of_range>([&] { root.value_or("host", 1); }) && ends_by<std::out_of_range>([&] { root.value_or("none", 1); }));
+    EXPECT(root.contains("none") && !root.contains("prot") && !root["tags"].contains("a"));
+    EXPECT(root.size() == 8 && root["tags"].size() == 2 && root["tags"].get(1) == "b");
+    const std::string_view kinds[] = {"number", "string", "bool", "number", "number", "number", "array", "null"};
+    size_t at = 0;
+    for (const auto &[key, value] : root.object()) {
+        EXPECT(value.is_null() == (kinds[at] == "null") && value.is_bool() == (kinds[at] == "bool"));
+        EXPECT(value.is_number() == (kinds[at] == "number") && value.is_string() == (kinds[at] == "string"));
+        EXPECT(value.is_array() == (kinds[at] == "array") && !value.is_object());
+        at++;
+    }
+    // What is no array is no empty one.
+    EXPECT(ends_by<std::out_of_range>([&] { root.array(); }, "simd_json: no array, but Object"));
+    EXPECT(ends_by<std::out_of_range>([&] { root["tags"].object(); }, "simd_json: no object, but Array"));
+    EXPECT(ends_by<std::out_of_range>([&] { root["host"].size(); }, "simd_json: no array, but String"));
+    EXPECT(!root.get(0) && !root["host"].get(0) && !root["tags"].get("a"));
+}
+
+// A pointer that is none is an error, in whatever text.
+static void are_malformed_pointers() {
+    simd_json::parser parser;
+    parser.scan(R"({"a":1,"~2":2,"~":3,"":4})");
+    simd_json::parser other;
+    const auto root = other.parse(R"({"a":1,"~2":2,"~":3,"":4})");
+    for (const std::string_view wrong : {"a", "$.a", ".a", "a/0", "/~", "/a~", "/~2", "/~~0", "~0", " /a"}) {
+        const std::string words = "simd_json: \"" + std::string(wrong) + "\" is no JSON Pointer (RFC 6901): write / before each key and"
+            " index, as in /users/0/name, and in a key ~1 for / and ~0 for ~";
+        EXPECT(ends_by<std::invalid_argument>([&] { parser.pointer(wrong); }, words));
+        EXPECT(ends_by<std::invalid_argument>([&] { root.pointer(wrong); }, words));
+        EXPECT(ends_by<std::invalid_argument>([&] { simd_json::parser().print("[1]", wrong); }, words));
+    }
+    EXPECT(root.pointer("/a") == 1 && root.pointer("/~02") == 2 && root.pointer("/~0") == 3 && root.pointer("/") == 4);
+    EXPECT(parser.pointer("/a") == 1 && parser.pointer("/~02") == 2 && parser.pointer("/~0") == 3 && parser.pointer("/") == 4);
 }
 
 static void are_printed() {
@@ -271,23 +356,42 @@ static void are_checked() {
     EXPECT(throws([&] { parser.scan("[]"); }, SIMD_JSON_PARSER_CLOSED, 0) && !parser.pointer(""));
 }
 
+// Whether a text is scanned without an error.
+static bool scan(simd_json::parser &parser, std::string_view text) {
+    try {
+        parser.scan(text);
+    } catch (const simd_json::error &) {
+        return false;
+    }
+    return true;
+}
+
+// Whether a value that is not there is an error, with this reason if it has one.
+static bool lacks(simd_json::parser &parser, std::string_view reason) {
+    try {
+        parser.pointer("/7");
+    } catch (const simd_json::error &e) {
+        return e.line() == 0 || reason.empty() || e.reason() == reason;
+    }
+    return false;
+}
+
 static void are_found() {
     simd_json::parser parser;
     EXPECT(!parser.pointer(""));
     std::string text = R"({"a":[{"id":7,"name":"\u00e9"}],"wrong":[1,
- x],"long":")" + std::string(100000, 'x') + R"(","~/":2)";
+ x],"long":")" + std::string(100000, 'x') + R"(","~/":2})";
     parser.scan(text);
     text.assign(text.size(), ' '); // it is kept
     EXPECT(parser.pointer("/a/0/id") == 7 && parser.pointer("/a/0/name") == "é");
-    EXPECT(parser.pointer("/~0~1") == 2 && !parser.pointer("/a/1") && !parser.pointer("a")
-           && !parser.pointer("/\xff"));
+    EXPECT(parser.pointer("/~0~1") == 2);
     EXPECT(parser.pointer("/long")->as_string()->size() == 100000 && parser.root().as_string());
     EXPECT(parser.pointer("/a").value()[0]["id"] == 7);
     try {
         parser.pointer("/wrong");
         EXPECT(false);
     } catch (const simd_json::error &e) {
-        EXPECT(e.index() == 5 && e.line() == 2 && e.column() == 2);
+        EXPECT(e.index() == 45 && e.line() == 2 && e.column() == 2);
         EXPECT(e.reason() == "expected a value, found `x`");
     }
     EXPECT(ends_by<std::logic_error>([&] { parser.root(); }));
@@ -295,11 +399,25 @@ static void are_found() {
     EXPECT(parser.pointer(parser.root()[0].as_string().value()).value()["id"] == 7);
     EXPECT(throws([&] { parser.scan("[\"\xff\"]"); }, SIMD_JSON_INVALID_UTF8, 0));
     EXPECT(!parser.pointer("/a"));
-    // A malformed word or number is no value, a malformed string is found.
-    parser.scan(R"([tru, 01, "\q", [1.]])");
-    EXPECT(!parser.pointer("/0") && !parser.pointer("/1") && !parser.pointer("/3/0"));
-    EXPECT(throws([&] { parser.pointer("/2"); }, SIMD_JSON_INVALID_ESCAPE, 1));
-    EXPECT(throws([&] { parser.pointer("/3"); }, SIMD_JSON_INVALID_NUMBER, 3));
+    // What is absent or malformed has the error of the text.
+    parser.scan(R"([1, "a", tru, 01, "\q", [1.]])");
+    EXPECT(parser.pointer("/0") == 1 && parser.pointer("/1") == "a");
+    for (const char *const pointer : {"/2", "/3", "/4", "/5", "/5/0", "/6", "/0/a", "", "/2"})
+        EXPECT(throws([&] { parser.pointer(pointer); }, SIMD_JSON_EXPECTED_TRUE, 9));
+    // Of a document nothing is wrong, also between blanks; of what is none, whatever follows or lacks.
+    const std::string integer = "1" + std::string(40, '0');
+    for (const std::string_view right : {"[1]", " \t\r\n[1]\n ", "\"a\"", " 7 ", "null"}) {
+        parser.scan(right);
+        for (int i = 0; i < 2; i++)
+            EXPECT(parser.pointer("") && !parser.pointer("/1") && !parser.pointer("/\xff"));
+    }
+    for (const char *const wrong : {"[1] x", "[1]]", "[1] [2]", "{} {}", "\"a\" \"b\""})
+        EXPECT(scan(parser, wrong) && parser.pointer("") && lacks(parser, "more text after the document"));
+    for (const auto &wrong : {std::string("[1"), std::string("[[1]"), std::string("{\"a\":[1,2}"), std::string("[1}"),
+                              std::string("[1,]"), "[" + integer + "]", std::string("{\"a\" 1}")})
+        EXPECT(scan(parser, wrong) && lacks(parser, "") && lacks(parser, ""));
+    for (const char *const wrong : {"nope", integer.c_str(), "1 2", "tru", "]", ",", "\xef\xbb\xbf[1]", "-"})
+        EXPECT(!scan(parser, wrong));
 #ifndef NDEBUG
     parser.scan("[1,2]");
     const auto one = parser.pointer("/0");
@@ -310,8 +428,7 @@ static void are_found() {
 
 static void are_null_by_default() {
     const simd_json::element none;
-    EXPECT(none.is_null() && !none.as_string() && !none.as_double() && none.array().size() == 0
-           && none.object().size() == 0);
+    EXPECT(none.is_null() && !none.as_string() && !none.as_double() && none == simd_json::element());
     EXPECT(none.pointer("")->is_null() && !none.pointer("/a") && !none.get("a") && !none.get(0));
     EXPECT(simd_json::array_view().begin() == simd_json::array_view().end());
 }
@@ -339,6 +456,9 @@ static void are_ranges() {
     EXPECT(std::ranges::count_if(root[1].object(), has_two) == 1);
     EXPECT(std::ranges::find_if(root[1].object(), has_two) == root[1].object().begin());
     EXPECT(std::ranges::distance(root.array() | std::views::drop(1)) == 2);
+    const auto ids = parser.parse("[1,2,3]");
+    EXPECT(std::ranges::find(ids.array(), ids[1]) == ++ids.array().begin() && std::ranges::count(ids.array(), ids[2]) == 1);
+    EXPECT(*std::ranges::find(ids.array(), 3, &simd_json::element::as_int64) == 3);
 }
 #else
 static void are_ranges() {}
@@ -353,6 +473,9 @@ int main() {
     take_each_index();
     keep_wide_integers();
     compare_with_scalars();
+    compare_with_each_other();
+    are_read_as_types();
+    are_malformed_pointers();
     are_printed();
     are_checked();
     are_found();
@@ -369,8 +492,8 @@ int main() {
     EXPECT(a[5].as_string() == "é" && a[6].is_null() && a[7].as_bool() == true && !a.get(8));
     EXPECT(root["b"]["c"].as_uint64() == UINT64_MAX && !root["b"]["c"].as_int64());
     EXPECT(root.pointer("/b/c")->as_uint64() == UINT64_MAX && root.pointer("")->is_object() && a.pointer("/2")->as_double() == 2.5);
-    EXPECT(a.pointer("/5")->as_string() == "é" && !root.pointer("/b/d") && !a.pointer("/8") && !a[0].pointer("/0") && !a.pointer("0"));
-    EXPECT(!root.get("d") && !a.get("a") && !root.get(0) && a.object().size() == 0);
+    EXPECT(a.pointer("/5")->as_string() == "é" && !root.pointer("/b/d") && !a.pointer("/8") && !a[0].pointer("/0"));
+    EXPECT(!root.get("d") && !a.get("a") && !root.get(0));
     std::string keys;
     for (const auto &[key, value] : root.object())
         keys += std::string(key) + std::to_string(value.kind());
@@ -379,7 +502,7 @@ int main() {
     for (const auto value : a.array())
         count += value.kind() != SIMD_JSON_OBJECT;
     EXPECT(count == 8);
-    const auto members = root.object(), none = root["b"]["c"].object();
+    const auto members = root.object(), none = simd_json::object_view();
     keys.clear();
     for (auto member = members.begin(); member != members.end(); ++member)
         keys += std::string(member->first) + std::to_string(member->second.kind());

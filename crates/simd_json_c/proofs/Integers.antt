@@ -1,6 +1,5 @@
 -- An integer to the end of the bytes, from what a reader of numbers returns.
-use Rattle.std.proofs.Common.{◌≡◌, refl, sym, ◌∙◌, ap, ℕ, ◌+◌, ◌%◌, ◌/◌, ◌^◌, List, length, Bool, inl, arith}
-use Rattle.std.specs.Prelude.{pos, Result, Ok, Err}
+use Rattle.std.proofs.Common.{◌≡◌, refl, sym, ◌∙◌, ap, ℕ, ◌+◌, ◌%◌, ◌/◌, ◌^◌, List, length, Bool, inl, arith, pos, Result, Ok, Err}
 use Rattle.simd_json_parts.specs.Document.{Document, integer}
 use Rattle.simd_json_parts.specs.Integers.{integer_node}
 use Rattle.simd_json_parts.specs.declared.error.Error.{Error}
@@ -9,7 +8,7 @@ use Rattle.simd_json_parts.specs.declared.node.StaticNode.TheVariants as fixed
 use Rattle.simd_json_scalars.specs.NumberRead.{IsNumberAt}
 use Rattle.simd_json_scalars.specs.declared.numberparse.Number.{Number}
 use Rattle.simd_json_scalars.specs.declared.numberparse.Number.TheVariants.{Integer, Decimal, Invalid}
-use Rattle.simd_json_c.specs.Integers.{IsInteger, IsIntegerPut, bits_of}
+use Rattle.simd_json_c.specs.Integers.{IsIntegerText, IsIntegerPut, bits_of}
 
 -- where it ends; its node; whether it is an integer
 abbrev end_of : Result (Document × ℕ) Error → ℕ
@@ -34,18 +33,18 @@ one_of (Err e) = 0
 
 module _ (b : List ℕ) where
   pub not-integer : (r : Number) → IsNumberAt b 0 r → ((node : StaticNode) (len : ℕ) → r ≡ Integer node len → ⊥)
-      → (minus : Bool) (n : ℕ) → IsInteger b minus n → ⊥
+      → (minus : Bool) (n : ℕ) → IsIntegerText b minus n → ⊥
   not-integer (Integer node len) read never minus n is = never node len refl
   not-integer (Decimal len) read never minus n is = let e : 0 ≡ 1 = ap one_of (sym read ∙ is) in omega (arith, e)
   not-integer (Invalid offset) read never minus n is = let e : 0 ≡ 1 = ap one_of (sym read ∙ is) in omega (arith, e)
 
   pub whole-len : (node : StaticNode) (len : ℕ) → IsNumberAt b 0 (Integer node len)
-      → (minus : Bool) (n : ℕ) → IsInteger b minus n → len ≡ length b
+      → (minus : Bool) (n : ℕ) → IsIntegerText b minus n → len ≡ length b
   whole-len node len (m, k, read, same) minus n is =
       let e : 0 + len ≡ length b = ap end_of (sym read ∙ is) in omega (arith, e)
 
   pub whole-node : (node : StaticNode) (len : ℕ) → IsNumberAt b 0 (Integer node len)
-      → (minus : Bool) (n : ℕ) → IsInteger b minus n → node ≡ integer_node minus n
+      → (minus : Bool) (n : ℕ) → IsIntegerText b minus n → node ≡ integer_node minus n
   whole-node node len (m, k, read, same) minus n is = same ∙ ap node_of (sym read ∙ is)
 
   pub put : (node : StaticNode) (len bits low high : ℕ) → IsNumberAt b 0 (Integer node len) → len ≡ length b → bits ≡ bits_of node

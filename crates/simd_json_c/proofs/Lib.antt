@@ -5,6 +5,10 @@ mod Placing
 mod Calling
 mod Naming
 mod Doubles
+mod DigitTails
+mod FixedPoints
 mod Printing
 mod NodePlaces
 mod Integers
+mod Numbers
+mod Malformed

@@ -24,4 +24,5 @@ module _ (b is : List ℕ) (i : ℕ) (inside : i < length is) where
       → slice_get (node_places b (drop i is)) left ≡ slice_get (node_places b (drop (i + 1) is)) (left - 1)
   later t zero some = absurd (omega arith)
   later t (suc left) some =
-      ap (λ ns. slice_get ns (suc left)) (here t) ∙ ap (slice_get (node_places b (drop (i + 1) is))) {x = left} {y = suc left - 1} (omega arith)
+      ap (λ ns. slice_get ns (suc left)) (here t)
+      ∙ ap (slice_get (node_places b (drop (i + 1) is))) {x = left} {y = suc left - 1} (omega arith)

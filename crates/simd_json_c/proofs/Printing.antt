@@ -1,12 +1,11 @@
 -- The printer's nodes of cells that list a document.
-use Rattle.std.proofs.Common.{◌≡◌, refl, sym, ◌∙◌, ap, ap₂, subst, ℕ, zero, suc, ◌+◌, ◌-◌, ◌^◌, ◌≤◌, ◌<◌, ◌⊎◌, inl, inr, List, [], ◌∷◌, ◌++◌}
-use Rattle.std.proofs.Common.{length, take, drop, get_or, Bool, true, false, ◌==◌, nat_le, arith}
-use Rattle.std.specs.Prelude.{ℤ, pos, negsuc, not, Ok}
+use Rattle.std.proofs.Common.{◌≡◌, refl, sym, ◌∙◌, ap, ap₂, subst, ℕ, zero, suc, ◌+◌, ◌-◌, ◌^◌, ◌≤◌, ◌<◌, ◌⊎◌, inl, inr, List, [], ◌∷◌}
+use Rattle.std.proofs.Common.{◌++◌, length, take, drop, get_or, Bool, true, false, ◌==◌, nat_le, arith, ℤ, pos, negsuc, not, Ok}
 use Rattle.std.specs.Int.{cast_signed, w64}
 use Rattle.std.specs.List.{All}
 use Rattle.std.proofs.lemmas.Int.{to_z-of_z}
 use Rattle.std.proofs.lemmas.Bool.{cond_both, false≢true, leb-false}
-use Rattle.std.proofs.lemmas.List.{append-nil, length-drop, length-take, length-take-le}
+use Rattle.std.proofs.lemmas.List.{append-nil, length-drop, length-take-le}
 use Rattle.simd_json_parts.specs.Document.{Document, integer}
 use Rattle.simd_json_parts.specs.Integers.{integer_node, max_magnitude, max_magnitude_64, number_of}
 use Rattle.simd_json_parts.specs.NumberAt.{number_at}
@@ -23,18 +22,15 @@ use Rattle.simd_json_scalars.specs.declared.numberparse.Number.TheVariants.{Inte
 use Rattle.simd_json_stages.specs.Placed.{IsLiteralOf, is_long}
 use Rattle.simd_json_c.proofs.Integers.{not-integer, whole-node}
 use Rattle.simd_json_c.proofs.Placing.{value-within}
-use Rattle.simd_json_c.specs.Integers.{IsInteger}
+use Rattle.simd_json_c.specs.Integers.{IsIntegerText}
 use Rattle.simd_json_c.specs.Placed.{AreFirst, IsNodeOf, IsValueAt}
 use Rattle.simd_json_c.specs.Printable.{IsPartAt, IsPrintable, IsStrAt, IsWideAt, IsWideLiteral}
 use Rattle.simd_json_c.specs.declared.cells.Cell.{Cell}
 
-pub part-inside : (text : List ℕ) (at len : ℕ) (part : List ℕ) → IsPartAt text at len part → len ≤ length text - at
-part-inside text at len part is = omega (arith, is.0, ap length is.1, length-take len (drop at text), length-drop at text)
-
 -- ---- an item from its cell
 
 module _ (text : List ℕ) (cell : Cell) (r : Item) where
-  part-at : (x : Item) (is : IsNodeOf text cell x) → (cell.len ≡ length is.part) → (cell.value ≡ is.at)
+  pub part-at : (x : Item) (is : IsNodeOf text cell x) → (cell.len ≡ length is.part) → (cell.value ≡ is.at)
       → IsPartAt text cell.value cell.len is.part
   part-at x is len at = (len, ap₂ (λ l i. take l (drop i text)) len at ∙ is.there)
 
@@ -151,7 +147,7 @@ wide-is value minus n long is =
 
 -- what an integer of 128 bits is read from
 pub wide-read : (literal : List ℕ) (value : StaticNode) → IsWideLiteral literal value
-    → (minus : Bool) × (n : ℕ) × (value ≡ integer_node minus n) × IsInteger literal minus n
+    → (minus : Bool) × (n : ℕ) × (value ≡ integer_node minus n) × IsIntegerText literal minus n
 wide-read literal (fixed.I128 z) (long, text, (minus, n, is, fits)) =
     let w = wide-is (fixed.I128 z) minus n long is in
     (minus, n, is, literal-read literal minus n fits w.0 (text.0, text.1 ∙ w.1))
@@ -169,22 +165,15 @@ pub read-node : (literal : List ℕ) (node : StaticNode) (len : ℕ) → IsNumbe
     → (value : StaticNode) → IsWideLiteral literal value → node ≡ value
 read-node literal node len read value is = by (wide-read literal value is)
   where
-    by : (minus : Bool) × (n : ℕ) × (value ≡ integer_node minus n) × IsInteger literal minus n → node ≡ value
+    by : (minus : Bool) × (n : ℕ) × (value ≡ integer_node minus n) × IsIntegerText literal minus n → node ≡ value
     by (minus, n, node-is, whole) = whole-node literal node len read minus n whole ∙ sym node-is
 
 pub read-other : (literal : List ℕ) (r : Number) → IsNumberAt literal 0 r
     → ((node : StaticNode) (len : ℕ) → r ≡ Integer node len → ⊥) → (value : StaticNode) → IsWideLiteral literal value → ⊥
 read-other literal r read never value is = by (wide-read literal value is)
   where
-    by : (minus : Bool) × (n : ℕ) × (value ≡ integer_node minus n) × IsInteger literal minus n → ⊥
+    by : (minus : Bool) × (n : ℕ) × (value ≡ integer_node minus n) × IsIntegerText literal minus n → ⊥
     by (minus, n, node-is, whole) = not-integer literal r read never minus n whole
-
-pub wide-made : (text : List ℕ) (at len : ℕ) (literal : List ℕ) (node : StaticNode)
-    → ((part : List ℕ) → IsPartAt text at len part → literal ≡ part)
-    → ((value : StaticNode) → IsWideLiteral literal value → node ≡ value)
-    → (value : StaticNode) → IsWideAt text at len value → static_item node ≡ static_item value
-wide-made text at len literal node texts reads value (part, is, wide) =
-    ap static_item (reads value (subst (λ p. IsWideLiteral p value) (sym (texts part is)) wide))
 
 -- ---- the cells of a value, and the next one
 
@@ -216,7 +205,8 @@ next-item text d [] cells at are inside all = absurd (omega arith)
 next-item text d (x ∷ xs) [] at are inside all = absurd are
 next-item text d (x ∷ xs) (c ∷ cs) zero are inside all = record { item = x; node = are.0; printable = all 0 x (omega arith); longer = refl }
 next-item text d (x ∷ xs) (c ∷ cs) (suc at) are inside all =
-    let r : NextItem text xs (get_or cs at d) at = next-item text d xs cs at are.1 (omega arith) (λ k e less. all (suc k) e (omega (arith, less))) in
+    let r : NextItem text xs (get_or cs at d) at =
+    next-item text d xs cs at are.1 (omega arith) (λ k e less. all (suc k) e (omega (arith, less))) in
     let one : suc at + 1 ≡ suc (at + 1) = omega arith in
     record {
       item = r.item;

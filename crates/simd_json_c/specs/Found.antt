@@ -1,5 +1,5 @@
 -- Values that are found by pointers in an input that a parser keeps, with its structural indexes.
-use Rattle.std.specs.Prelude.{◌≡◌, ℕ, ℤ, List, true, false, Option, Some, None, MatchOption, Ok, IsUtf8}
+use Rattle.std.specs.Prelude.{◌≡◌, ℕ, ℤ, List, true, false, Option, Some, None, MatchOption, MatchResult, Ok, IsUtf8}
 use Rattle.std.specs.Result.{result_ok}
 use Rattle.simd_json_parts.specs.Answer.{answer}
 use Rattle.simd_json_parts.specs.Document.{Document}
@@ -19,7 +19,7 @@ use Rattle.simd_json_ondemand.specs.declared.value.Value.{Value}
 use Rattle.simd_json_c.specs.Calls.{IsTextPut}
 use Rattle.simd_json_c.specs.Indexed.{IsUnscanned}
 use Rattle.simd_json_c.specs.Kept.{KeepsRoom, KeepsSource, source_capacity}
-use Rattle.simd_json_c.specs.Statuses.{error_place, error_status, no_value_status, parser_closed}
+use Rattle.simd_json_c.specs.Statuses.{error_place, error_status, missing_status, named_by, no_value_status, parser_closed}
 use Rattle.simd_json_c.specs.declared.demand.FoundValue.{FoundValue}
 use Rattle.simd_json_c.specs.declared.status.ErrorPlace.{ErrorPlace}
 use Rattle.simd_json_c.specs.declared.scanned.ScannedInput.{ScannedInput}
@@ -38,9 +38,9 @@ kind_number kinds.String = 7
 kind_number kinds.Array = 8
 kind_number kinds.Object = 9
 
--- there is no such value
-abbrev pub IsNotFound : ℤ → FoundValue → FoundValue → List ℕ → List ℕ → Type 0
-IsNotFound status old_found found old new = (status ≡ no_value_status) × (found ≡ old_found) × (new ≡ old)
+-- there is no value, for a reason
+abbrev pub IsNotFound : ℤ → FoundValue → FoundValue → List ℕ → List ℕ → ℤ → Type 0
+IsNotFound status old_found found old new why = (status ≡ why) × (found ≡ old_found) × (new ≡ old)
 
 -- the value's kind, and its bytes as they are written, which are put or have too little room
 abbrev pub IsPutAs : ValueType → List ℕ → ℤ → FoundValue → List ℕ → List ℕ → Type 0
@@ -49,8 +49,9 @@ IsPutAs k bytes status found old new = (found.kind ≡ kind_number k) × IsTextP
 -- of a place that has both
 abbrev pub IsValuePut : Value → ℤ → FoundValue → FoundValue → List ℕ → List ℕ → Type 0
 IsValuePut v status old_found found old new =
-    MatchOption (kind v) (IsNotFound status old_found found old new)
-    (λ k. MatchOption (written v) (IsNotFound status old_found found old new) (λ bytes. IsPutAs k bytes status found old new))
+    MatchOption (kind v) (IsNotFound status old_found found old new no_value_status)
+    (λ k. MatchOption (written v) (IsNotFound status old_found found old new no_value_status)
+    (λ bytes. IsPutAs k bytes status found old new))
 
 -- where the pointer leads in b, whatever the bytes are
 abbrev pub site_named : List ℕ → List ℕ → Option Site
@@ -59,21 +60,22 @@ site_named pointer b = reached (pointed_at pointer (b, positions b))
 -- of the value at that place of b
 abbrev pub IsSitePut : List ℕ → List ℕ → ℤ → FoundValue → FoundValue → List ℕ → List ℕ → Type 0
 IsSitePut b pointer status old_found found old new =
-    MatchOption (site_named pointer b) (IsNotFound status old_found found old new)
-    (λ s. (v : Value) × (site v ≡ s) × IsValuePut v status old_found found old new)
+    MatchResult (named_by pointer (site_named pointer b))
+    (λ s. (v : Value) × (site v ≡ s) × IsValuePut v status old_found found old new) (IsNotFound status old_found found old new)
 
 -- where b is a document, this is the value that the pointer names in it
 abbrev pub IsNamedPut : List ℕ → List ℕ → ℤ → FoundValue → FoundValue → List ℕ → List ℕ → Type 0
 IsNamedPut b pointer status old_found found old new = (d : Document) (limit : ℕ) → answer b limit ≡ Ok d
-    → MatchOption (result_ok (pointed pointer d)) (IsNotFound status old_found found old new)
+    → MatchResult (named_by pointer (result_ok (pointed pointer d)))
     (λ e. (v : Value) × (site_named pointer b ≡ Some (site v)) × (doc v ≡ Some e)
     × ((bytes : List ℕ) × (written v ≡ Some bytes) × IsPutAs (value_type e) bytes status found old new))
+    (IsNotFound status old_found found old new)
 
 -- in the input that is kept, or in none
 abbrev pub IsFoundIn : ScannedInput → List ℕ → ℤ → FoundValue → FoundValue → List ℕ → List ℕ → Type 0
 IsFoundIn source pointer status old_found found old new =
-    (source.is_scanned ≡ false → IsNotFound status old_found found old new)
-    × ((IsUtf8 pointer → ⊥) → IsNotFound status old_found found old new)
+    (source.is_scanned ≡ false → IsNotFound status old_found found old new (missing_status pointer))
+    × ((IsUtf8 pointer → ⊥) → IsNotFound status old_found found old new (missing_status pointer))
     × (source.is_scanned ≡ true → IsUtf8 pointer
     → IsSitePut source.bytes.items pointer status old_found found old new
     × IsNamedPut source.bytes.items pointer status old_found found old new)

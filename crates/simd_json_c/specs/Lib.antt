@@ -13,3 +13,4 @@ pub mod Found
 pub mod Doubles
 pub mod Integers
 pub mod Printable
+pub mod Numbers

@@ -1,8 +1,8 @@
 -- The place and the reason of an error, for people.
-use Rattle.std.specs.Prelude.{◌≡◌, ◌⊎◌, ◌||◌, ◌==◌, ℕ, ℤ, pos, List, [], ◌∷◌, Bool, not, cond, is_none, map, nat_lt, slice_get, unwrap_or, if◌then◌else◌}
-use Rattle.std.specs.Prelude.{Option, Some, None, option_map, MatchOption}
-use Rattle.simd_json_check.specs.Messages.{reason_text}
-use Rattle.simd_json_check.specs.Reasons.{location_of}
+use Rattle.std.specs.Prelude.{◌≡◌, ◌⊎◌, ◌||◌, ◌==◌, ℕ, ℤ, pos, List, [], ◌∷◌, Bool, not, cond, is_none, map, nat_lt, slice_get}
+use Rattle.std.specs.Prelude.{if◌then◌else◌, unwrap_or, Option, Some, None, option_map, MatchOption}
+use Rattle.simd_json_check.specs.Messages.{message_text}
+use Rattle.simd_json_check.specs.Reasons.{location_in, location_of, shown_kind}
 use Rattle.simd_json_check.specs.declared.location.Location.{Location}
 use Rattle.simd_json_parts.specs.Bytes.{byte_at, colon, comma, right_bracket, right_brace}
 use Rattle.simd_json_parts.specs.Faults.{error_of}
@@ -13,7 +13,7 @@ use Rattle.simd_json_parts.specs.declared.error.Error.{Error}
 use Rattle.simd_json_parts.specs.declared.error.ErrorType.{ErrorType}
 use Rattle.simd_json_c.specs.Calls.{IsTextPut}
 use Rattle.simd_json_c.specs.Names.{error_kinds}
-use Rattle.simd_json_c.specs.Statuses.{no_value_status, out_of_memory}
+use Rattle.simd_json_c.specs.Statuses.{kind_status, no_value_status, out_of_memory}
 use Rattle.simd_json_c.specs.declared.location.InputPosition.{InputPosition}
 use Rattle.simd_json_c.specs.declared.status.ErrorPlace.{ErrorPlace}
 
@@ -31,19 +31,20 @@ abbrev pub error_with : ℤ → ErrorPlace → Option Error
 error_with status place = option_map (error_of place.index (byte_of place.character)) (kind_with status)
 
 abbrev pub position_of : Location → InputPosition
-position_of l = record { byte = l.byte; line = l.line; column = l.column }
+position_of l =
+    record { byte = l.byte; line = l.line; column = l.column; status = pos (kind_status (shown_kind l.reason l.error.error)) }
 
 -- of no error
 abbrev pub nowhere : InputPosition
-nowhere = record { byte = 0; line = 0; column = 0 }
+nowhere = record { byte = 0; line = 0; column = 0; status = pos 0 }
 
--- the place of an error of b, and its reason where there is memory and room for it
-abbrev pub IsLocated : List ℕ → Option Error → ℤ → InputPosition → ℕ → ℕ → List ℕ → List ℕ → Type 0
-IsLocated b fault status position old_needed needed old new =
+-- the place of an error of b, which begins in line `first` of a file, and its reason where there is memory and room for it
+abbrev pub IsLocated : List ℕ → ℕ → Option Error → ℤ → InputPosition → ℕ → ℕ → List ℕ → List ℕ → Type 0
+IsLocated b first fault status position old_needed needed old new =
     MatchOption fault
     ((status ≡ pos 0) × (position ≡ nowhere) × (needed ≡ 0) × (new ≡ old))
-    (λ e. (position ≡ position_of (location_of b e))
-    × (IsTextPut (reason_text (location_of b e).reason) status needed old new
+    (λ e. let l = location_in first (location_of b e) in (position ≡ position_of l)
+    × (IsTextPut (message_text l.reason l.opening) status needed old new
     ⊎ ((status ≡ out_of_memory) × (needed ≡ old_needed) × (new ≡ old))))
 
 -- ---- where a node was written
@@ -59,7 +60,7 @@ node_places b (i ∷ is) = if begins_node (byte_at b i) then i ∷ node_places b
 
 -- that of an error there
 abbrev pub node_position : List ℕ → ℕ → InputPosition
-node_position b i = position_of (location_of b (error_of i (Some 32) errors.InvalidNumber))
+node_position b i = record (position_of (location_of b (error_of i (Some 32) errors.InvalidNumber))) { status = pos 0 }
 
 -- it is that of the node with an index, or there is no such node, or an allocation failed
 abbrev pub IsNodeLocated : List ℕ → ℕ → ℤ → InputPosition → InputPosition → Type 0

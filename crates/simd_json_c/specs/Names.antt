@@ -15,7 +15,8 @@ error_kinds =
     ∷ errors.InvalidNumber ∷ errors.InvalidEscape ∷ errors.InvalidUnicodeCodepoint ∷ []
 
 abbrev pub status_names : List (List ℕ)
-status_names = codes "Ok" ∷ (map kind_text error_kinds ++ codes "TooLittleRoom" ∷ codes "ParserClosed" ∷ codes "NoValue" ∷ [])
+status_names = codes "Ok" ∷ (map kind_text error_kinds
+    ++ codes "TooLittleRoom" ∷ codes "ParserClosed" ∷ codes "NoValue" ∷ codes "InvalidPointer" ∷ [])
 
 -- those of the nodes' kinds from 0 on
 abbrev pub node_kinds : List ValueType

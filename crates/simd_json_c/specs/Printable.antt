@@ -8,9 +8,10 @@ use Rattle.simd_json_parts.specs.Listing.{listing}
 use Rattle.simd_json_parts.specs.Nodes.{Item, static_item, decimal_item, string_item}
 use Rattle.simd_json_parts.specs.declared.node.StaticNode.{StaticNode}
 use Rattle.simd_json_parts.specs.declared.node.StaticNode.TheVariants as fixed
+use Rattle.simd_json_print.specs.Layout.{printed}
+use Rattle.simd_json_print.specs.declared.document.Layout.{Layout}
 use Rattle.simd_json_stages.specs.Placed.{IsTextOf, is_long}
 use Rattle.simd_json_c.specs.Calls.{IsTextPut}
-use Rattle.simd_json_c.specs.Chosen.{printed_text}
 use Rattle.simd_json_c.specs.Placed.{IsValueAt}
 use Rattle.simd_json_c.specs.Statuses.{no_value_status, out_of_memory}
 use Rattle.simd_json_c.specs.declared.cells.Cell.{Cell}
@@ -41,14 +42,11 @@ IsWideLiteral part value = (is_long value ≡ true) × IsTextOf (static_item val
 abbrev pub IsWideAt : List ℕ → ℕ → ℕ → StaticNode → Type 0
 IsWideAt text at len value = (part : List ℕ) × IsPartAt text at len part × IsWideLiteral part value
 
-abbrev pub ArePrintable : List Item → Type 0
-ArePrintable items = All IsPrintable items
-
 -- The text of the value at index `from` is put or has too little room, or an allocation failed; or no node has the index.
-abbrev pub IsNodePrinted : List Cell → List ℕ → ℕ → Bool → ℤ → ℕ → ℕ → List ℕ → List ℕ → Type 0
-IsNodePrinted cells text from is_pretty status old_needed needed old new =
+abbrev pub IsNodePrinted : List Cell → List ℕ → ℕ → Layout → ℤ → ℕ → ℕ → List ℕ → List ℕ → Type 0
+IsNodePrinted cells text from layout status old_needed needed old new =
     ((length cells ≤ from) × (status ≡ no_value_status) × (needed ≡ old_needed) × (new ≡ old))
     ⊎ ((from < length cells)
     × (((status ≡ out_of_memory) × (needed ≡ old_needed) × (new ≡ old))
-    ⊎ ((printed : List ℕ) × IsTextPut printed status needed old new
-    × ((d : Document) → IsValueAt cells text from d → ArePrintable (listing d) → printed ≡ printed_text is_pretty d))))
+    ⊎ ((put : List ℕ) × IsTextPut put status needed old new
+    × ((d : Document) → IsValueAt cells text from d → All IsPrintable (listing d) → put ≡ printed layout d))))

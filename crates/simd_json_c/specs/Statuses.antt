@@ -1,5 +1,6 @@
 -- What a program in C gets of an error: a status and a place.
-use Rattle.std.specs.Prelude.{◌-◌, ◌^◌, ℕ, ℤ, pos, Option, Some, None}
+use Rattle.std.specs.Prelude.{◌-◌, ◌^◌, ℕ, ℤ, pos, List, if◌then◌else◌, Option, Some, None, Result, Err, ok_or}
+use Rattle.simd_json_parts.specs.Pointed.{is_pointer}
 use Rattle.simd_json_parts.specs.declared.error.Error.{Error}
 use Rattle.simd_json_parts.specs.declared.error.ErrorType.{ErrorType}
 use Rattle.simd_json_parts.specs.declared.error.ErrorType.TheVariants as errors
@@ -57,6 +58,18 @@ out_of_memory = pos 1
 abbrev pub parser_closed : ℤ
 parser_closed = pos 20
 
--- a pointer names no value
+-- there is no such value
 abbrev pub no_value_status : ℤ
 no_value_status = pos 21
+
+-- a JSON Pointer is malformed
+abbrev pub invalid_pointer : ℤ
+invalid_pointer = pos 22
+
+-- why a pointer names no value: it is malformed, or leads nowhere
+abbrev pub missing_status : List ℕ → ℤ
+missing_status pointer = if is_pointer pointer then no_value_status else invalid_pointer
+
+-- what a pointer leads to, or why there is none: a malformed one names nothing
+abbrev pub named_by : {A : Type 0} → List ℕ → Option A → Result A ℤ
+named_by pointer found = if is_pointer pointer then ok_or found no_value_status else Err invalid_pointer

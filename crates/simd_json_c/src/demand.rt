@@ -9,6 +9,7 @@ ghost use Rattle.simd_json_c.specs.Found.{IsFoundIn, IsFoundWith, IsInputWith, I
 ghost use Rattle.simd_json_c.specs.Found.{IsValuePut, kind_number};
 
 use crate::parser::Parser;
+use crate::pointer::missing;
 use crate::print::put_text;
 use crate::scanned::ScannedInput;
 use crate::status::{ErrorPlace, NO_VALUE, PARSER_CLOSED, reported};
@@ -76,7 +77,7 @@ fn put_named(source: &ScannedInput, pointer: &[u8], found: &mut FoundValue, out:
 {
     match source.named(pointer) {
         Some(value) => put_value(value, found, out),
-        None => NO_VALUE,
+        None => missing(pointer),
     }
 }
 

@@ -12,16 +12,17 @@ ghost use Rattle.simd_json_c.specs.Calls.{IsCheckOf, IsCheckReported};
 ghost use Rattle.simd_json_c.specs.Chosen.{IsChosenPut, IsTapedWith};
 ghost use Rattle.simd_json_c.specs.Kept.{AreNew, IsReadWith, KeepsLists};
 ghost use Rattle.simd_json_c.specs.Lent.{AreLent};
-ghost use Rattle.simd_json_c.specs.Statuses.{no_value_status};
+ghost use Rattle.simd_json_c.specs.Statuses.{missing_status};
 
 use crate::cells::Cell;
 use crate::lent::Lent;
+use crate::pointer::missing;
 use crate::print::print_at;
 use crate::scanned::ScannedInput;
-use crate::status::{ErrorPlace, NO_VALUE, OUT_OF_MEMORY, reported};
+use crate::status::{ErrorPlace, OUT_OF_MEMORY, reported};
 use simd_json::{Buffers, Result, Tape, keep_spans, refill_tape};
 use simd_json_check::Checker;
-use simd_json_print::document::Level;
+use simd_json_print::document::{Layout, Level};
 use std::alloc::Global;
 use std::mem::replace;
 
@@ -97,20 +98,20 @@ impl Lists {
     }
 
     // Prints the value that a pointer names in a document to the caller's memory. Returns 0,
-    // `TOO_LITTLE_ROOM`, `NO_VALUE` or `OUT_OF_MEMORY`.
+    // `TOO_LITTLE_ROOM`, `INVALID_POINTER`, `NO_VALUE` or `OUT_OF_MEMORY`.
     pub(crate) fn print(
         &mut self,
         alloc: Global,
         input: &mut [u8],
         pointer: &str,
-        is_pretty: bool,
+        layout: Layout,
         out: &mut [u8],
         needed: &mut usize,
     ) -> Result<i32>
         ensures printed { IfOk result (λ status. (ns : List Item) × (d : Document)
             × IsTapedWith self.old input.old None ns self.new × (listing d ≡ ns)
             × IsChosenPut (vec_capacity self.old.printed) (length self.old.levels.items)
-            is_pretty pointer.now d status needed.old needed.new out.old out.new) }
+            layout pointer.now d status needed.old needed.new out.old out.new) }
         ensures rejected { IfErr result (λ e. (ns : List Item)
             × IsTapedWith self.old input.old (Some e) ns self.new
             × (needed.new ≡ needed.old) × (out.new ≡ out.old)) }
@@ -124,7 +125,7 @@ impl Lists {
                 let status = print_at(
                     value,
                     pointer,
-                    is_pretty,
+                    layout,
                     &mut self.printed,
                     &mut self.levels,
                     out,
@@ -146,7 +147,7 @@ impl Lists {
         alloc: Global,
         input: &mut [u8],
         pointer: &[u8],
-        is_pretty: bool,
+        layout: Layout,
         out: &mut [u8],
         needed: &mut usize,
     ) -> Result<i32>
@@ -154,8 +155,8 @@ impl Lists {
             × ((ns : List Item) × (d : Document)
             × IsTapedWith self.old input.old None ns self.new × (listing d ≡ ns)
             × IsChosenPut (vec_capacity self.old.printed) (length self.old.levels.items)
-            is_pretty pointer.now d status needed.old needed.new out.old out.new))
-            ⊎ ((IsUtf8 pointer.now → ⊥) × (status ≡ no_value_status)
+            layout pointer.now d status needed.old needed.new out.old out.new))
+            ⊎ ((IsUtf8 pointer.now → ⊥) × (status ≡ missing_status pointer.now)
             × (needed.new ≡ needed.old) × (out.new ≡ out.old))) }
         ensures rejected { IfErr result (λ e. IsUtf8 pointer.now × ((ns : List Item)
             × IsTapedWith self.old input.old (Some e) ns self.new
@@ -163,8 +164,8 @@ impl Lists {
         ensures kept { KeepsLists self.old self.new }
     {
         match str::from_utf8(pointer) {
-            Ok(pointer) => self.print(alloc, input, pointer, is_pretty, out, needed),
-            Err(_) => Ok(NO_VALUE),
+            Ok(pointer) => self.print(alloc, input, pointer, layout, out, needed),
+            Err(_) => Ok(missing(pointer)),
         }
     }
 

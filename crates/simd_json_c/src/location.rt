@@ -1,12 +1,12 @@
 //! Where an input is rejected and why, for people.
 ghost use Rattle.std.specs.Prelude.{◌≡◌, IfErr, IfOk, string_bytes};
 ghost use Rattle.simd_json_stages.specs.Capacities.{IsOutOfMemory};
-ghost use Rattle.simd_json_check.specs.Messages.{reason_text};
+ghost use Rattle.simd_json_check.specs.Messages.{message_text};
 ghost use Rattle.simd_json_c.specs.Located.{IsLocated, error_with, kind_with, position_of};
 
 use crate::print::lend_text;
 use crate::status;
-use crate::status::{ErrorPlace, OK};
+use crate::status::{ErrorPlace, OK, TRAILING_DATA, number};
 use simd_json::{Error, ErrorType, Result};
 use simd_json_check::{Location, Reason};
 use std::alloc::Global;
@@ -21,6 +21,8 @@ pub struct InputPosition {
     pub line: usize,
     /// The column: from 1, in characters.
     pub column: usize,
+    /// The status of the error's kind as people are shown it.
+    pub status: i32,
 }
 
 // The kind of error with a status, or `None` if it is no error of an input.
@@ -70,15 +72,21 @@ pub(crate) fn position_of(location: &Location) -> InputPosition
         byte: location.byte(),
         line: location.line(),
         column: location.column(),
+        status: match location.reason() {
+            Reason::MoreText => TRAILING_DATA,
+            _ => number(location.error().error()),
+        },
     }
 }
 
 // The reason in words.
-fn words(alloc: Global, reason: Reason) -> Result<String>
-    ensures text { IfOk result (λ text. string_bytes text ≡ reason_text reason) }
+fn words(alloc: Global, location: &Location) -> Result<String>
+    ensures text { IfOk result (λ text. string_bytes text
+        ≡ message_text location.now.reason location.now.opening) }
     ensures memory { IfErr result IsOutOfMemory }
 {
-    Ok(format!(in alloc; "{reason}")?)
+    let message = location.message();
+    Ok(format!(in alloc; "{message}")?)
 }
 
 /// Writes the place of an error, for people, and its reason in words to the caller's memory.
@@ -86,13 +94,14 @@ fn words(alloc: Global, reason: Reason) -> Result<String>
 pub extern "C" fn simd_json_location(
     alloc: Global,
     input: &[u8],
+    first: usize,
     status: i32,
     place: &ErrorPlace,
     position: &mut InputPosition,
     out: &mut [u8],
     needed: &mut usize,
 ) -> i32
-    ensures { IsLocated input.now (error_with status place.now) result position.new
+    ensures { IsLocated input.now first (error_with status place.now) result position.new
         needed.old needed.new out.old out.new }
 {
     let Some(error) = error_with(status, *place) else {
@@ -100,12 +109,13 @@ pub extern "C" fn simd_json_location(
             byte: 0,
             line: 0,
             column: 0,
+            status: OK,
         };
         *needed = 0;
         return OK;
     };
-    let location = Location::new(input, error);
+    let location = Location::new(input, error).in_file(first);
     *position = position_of(&location);
     let mut none = ErrorPlace::NONE;
-    lend_text(words(alloc, location.reason()), out, needed, &mut none)
+    lend_text(words(alloc, &location), out, needed, &mut none)
 }

@@ -10,14 +10,16 @@ ghost use Rattle.simd_json_parts.specs.Document.{Document, Elements, Members, el
 ghost use Rattle.simd_json_parts.specs.Followed.{IsPlain, fits_64};
 ghost use Rattle.simd_json_parts.specs.Listing.{elements_listing, listing, members_listing};
 ghost use Rattle.simd_json_parts.specs.Pointed.{array_index, element_at, member_at, named};
-ghost use Rattle.simd_json_parts.specs.Pointed.{pointed};
+ghost use Rattle.simd_json_parts.specs.Pointed.{is_pointer, pointed};
 ghost use Rattle.simd_json_parts.specs.Views.{get};
 ghost use Rattle.simd_json_c.specs.Placed.{AreAt, IsFound, IsValueAt, before_element};
 ghost use Rattle.simd_json_c.specs.Placed.{before_get, before_member, before_named};
 ghost use Rattle.simd_json_c.specs.Placed.{before_pointed, found_index, token_key};
+ghost use Rattle.simd_json_c.specs.Statuses.{missing_status};
 
 use crate::cells::Cell;
-use simd_json_parts::pointer::{is_index, is_key, next_token, read_index};
+use crate::status::{INVALID_POINTER, NO_VALUE};
+use simd_json_parts::pointer::{is_index, is_key, is_well_formed, next_token, read_index};
 
 // The kinds of the two headers.
 const ARRAY: u32 = 8;
@@ -36,6 +38,34 @@ pub extern "C" fn simd_json_get(nodes: &[Cell], text: &[u8], object: usize, key:
     ensures within { IfSome (found_index result) (λ i. i < length nodes.now) }
 {
     index_or_none(nodes, keyed(nodes, text, object, key))
+}
+
+/// Whether the bytes are a JSON Pointer (RFC 6901, section 3): empty, or a `/` before each
+/// reference token, and `0` or `1` after each `~`.
+#[unsafe(no_mangle)]
+pub extern "C" fn simd_json_is_pointer(pointer: &[u8]) -> bool
+    ensures { result ≡ is_pointer pointer.now }
+{
+    let mut followed = 0;
+    while let Some(token) = next_token(pointer, followed) {
+        if !is_well_formed(&pointer[followed + 1..token.end]) {
+            return false;
+        }
+        followed = token.end;
+    }
+    followed == pointer.len()
+}
+
+// Why a pointer names no value.
+#[cold]
+pub(crate) fn missing(pointer: &[u8]) -> i32
+    ensures { result ≡ missing_status pointer.now }
+{
+    if simd_json_is_pointer(pointer) {
+        NO_VALUE
+    } else {
+        INVALID_POINTER
+    }
 }
 
 /// Returns the index of the node that a pointer names beneath the node at index `from`.

@@ -66,5 +66,8 @@ fn position_at(input: &[u8], at: usize) -> InputPosition
     ensures { result ≡ node_position input.now at }
 {
     let token = Error::new(at, Some(' '), ErrorType::InvalidNumber);
-    position_of(&Location::new(input, token))
+    InputPosition {
+        status: OK,
+        ..position_of(&Location::new(input, token))
+    }
 }

@@ -1,6 +1,6 @@
 //! The printer's nodes, made of those that a program in C passes. These may be anything: a text is
 //! tested before it is read.
-ghost use Rattle.std.specs.Prelude.{◌≡◌, ◌≤◌, ◌⊎◌, ◌==◌, ℕ, List, IfOk, length, map, not};
+ghost use Rattle.std.specs.Prelude.{◌≡◌, ◌≤◌, ◌⊎◌, ◌==◌, ℕ, List, All, IfOk, length, map, not};
 ghost use Rattle.std.specs.Int.{cast_signed, w64};
 ghost use Rattle.simd_json_parts.specs.Document.{Document};
 ghost use Rattle.simd_json_parts.specs.Listing.{listing};
@@ -9,7 +9,7 @@ ghost use Rattle.simd_json_parts.specs.Nodes.{object_item, static_item, string_i
 ghost use Rattle.simd_json_parts.specs.declared.node.StaticNode.{StaticNode};
 ghost use Rattle.simd_json_parts.specs.declared.node.StaticNode.TheVariants as fixed;
 ghost use Rattle.simd_json_c.specs.Placed.{AreFirst, IsValueAt};
-ghost use Rattle.simd_json_c.specs.Printable.{ArePrintable, IsPartAt, IsStrAt};
+ghost use Rattle.simd_json_c.specs.Printable.{IsPartAt, IsPrintable, IsStrAt};
 ghost use Rattle.simd_json_c.specs.Printable.{IsWideAt, IsWideLiteral};
 
 use crate::cells::Cell;
@@ -26,7 +26,7 @@ pub(crate) fn nodes_from<'t>(
     from: usize,
 ) -> Result<Vec<Node<'t>>, AllocError>
     requires { from ≤ length cells.now }
-    ensures { (d : Document) → IsValueAt cells.now text.now from d → ArePrintable (listing d)
+    ensures { (d : Document) → IsValueAt cells.now text.now from d → All IsPrintable (listing d)
         → IfOk result (λ nodes. map item_of nodes.items ≡ listing d) }
 {
     let rest = &cells[from..];
@@ -41,7 +41,7 @@ pub(crate) fn nodes_from<'t>(
 
 fn nodes_of<'t>(alloc: Global, cells: &[Cell], text: &'t [u8]) -> Result<Vec<Node<'t>>, AllocError>
     ensures { (items : List Item) → AreFirst text.now items cells.now
-        → length items ≡ length cells.now → ArePrintable items
+        → length items ≡ length cells.now → All IsPrintable items
         → IfOk result (λ nodes. map item_of nodes.items ≡ items) }
 {
     let mut nodes = Vec::with_capacity(alloc, cells.len())?;
@@ -87,7 +87,7 @@ fn node_of<'t>(cell: Cell, text: &'t [u8]) -> Node<'t>
 }
 
 // The text of a node, or none if it has no such text.
-fn text_of<'t>(cell: Cell, text: &'t [u8]) -> &'t [u8]
+pub(crate) fn text_of<'t>(cell: Cell, text: &'t [u8]) -> &'t [u8]
     ensures { (part : List ℕ) → IsPartAt text.now cell.value cell.len part → result.now ≡ part }
 {
     text_at(text, cell.value, cell.len as usize)

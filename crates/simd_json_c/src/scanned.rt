@@ -1,7 +1,14 @@
 //! An input that a parser keeps, with its structural indexes.
-ghost use Rattle.std.specs.Prelude.{◌≡◌, true, None};
+ghost use Rattle.std.specs.Prelude.{◌≡◌, true, None, ℕ, pos, false, Ok, IfOk, IfErr, IsUtf8};
+ghost use Rattle.std.specs.Prelude.{option_map, Some};
 ghost use Rattle.simd_json_parts.specs.InputFaults.{input_fault};
 ghost use Rattle.simd_json_parts.specs.Positions.{positions};
+ghost use Rattle.std.specs.Result.{result_ok};
+ghost use Rattle.simd_json_ondemand.specs.Docs.{doc};
+ghost use Rattle.simd_json_ondemand.specs.Sites.{site};
+ghost use Rattle.simd_json_parts.specs.Answer.{answer};
+ghost use Rattle.simd_json_parts.specs.Pointed.{pointed};
+ghost use Rattle.simd_json_parts.specs.Document as parts;
 
 use simd_json::Result;
 use simd_json_ondemand::{Document, Index, Value};
@@ -21,15 +28,6 @@ pub struct ScannedInput {
 }
 
 impl ScannedInput {
-    ghost use Rattle.std.specs.Prelude.{◌≡◌, ℕ, pos, false, true, None, Ok, IfOk, IfErr, IsUtf8};
-    ghost use Rattle.std.specs.Prelude.{option_map, Some};
-    ghost use Rattle.std.specs.Result.{result_ok};
-    ghost use Rattle.simd_json_ondemand.specs.Docs.{doc};
-    ghost use Rattle.simd_json_ondemand.specs.Sites.{site};
-    ghost use Rattle.simd_json_parts.specs.Answer.{answer};
-    ghost use Rattle.simd_json_parts.specs.Document as parts;
-    ghost use Rattle.simd_json_parts.specs.InputFaults.{input_fault};
-    ghost use Rattle.simd_json_parts.specs.Pointed.{pointed};
     ghost use Rattle.simd_json_c.specs.Found.{site_named};
     ghost use Rattle.simd_json_c.specs.Indexed.{IsUnscanned};
     ghost use Rattle.simd_json_c.specs.Kept.{KeepsSource, source_capacity};

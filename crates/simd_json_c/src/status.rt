@@ -71,8 +71,10 @@ pub(crate) const PARSER_CLOSED: i32 = 20;
 
 pub(crate) const NO_VALUE: i32 = 21;
 
+pub(crate) const INVALID_POINTER: i32 = 22;
+
 // Each kind of error that a parse returns has its own number.
-fn number(kind: &ErrorType) -> i32
+pub(crate) fn number(kind: &ErrorType) -> i32
     ensures { result ≡ pos (kind_status kind.now) }
 {
     match kind {
@@ -151,6 +153,7 @@ fn name_of_status(status: i32) -> &'static [u8]
         TOO_LITTLE_ROOM => b"TooLittleRoom",
         PARSER_CLOSED => b"ParserClosed",
         NO_VALUE => b"NoValue",
+        INVALID_POINTER => b"InvalidPointer",
         _ => b"",
     }
 }

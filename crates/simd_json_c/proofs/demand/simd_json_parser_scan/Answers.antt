@@ -1,6 +1,5 @@
-use Rattle.std.proofs.Common.{◌≡◌, ◌∙◌, ℤ, pos, ap, sym, Option, Some, None, Result, Ok, Err, List, ℕ, rules, w32}
+use Rattle.std.proofs.Common.{◌≡◌, ◌∙◌, ℤ, pos, ap, sym, Option, Some, None, Result, Ok, Err, List, ℕ, rules, w32, false, IfOk, IfErr}
 use Rattle.std.proofs.lemmas.Int.{to_z-of_z}
-use Rattle.std.specs.Prelude.{false, IfOk, IfErr}
 use mir.Val.{SFits}
 use Rattle.simd_json_parts.specs.declared.error.Error.{Error}
 use Rattle.simd_json_c.specs.Found.{IsInputWith, KeepsInput}

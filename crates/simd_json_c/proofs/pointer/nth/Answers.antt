@@ -1,5 +1,4 @@
-use Rattle.std.proofs.Common.{◌≡◌, ◌∙◌, ap, subst, arith, ◌+◌, length}
-use Rattle.std.specs.Prelude.{slice_get}
+use Rattle.std.proofs.Common.{◌≡◌, ◌∙◌, ap, subst, arith, ◌+◌, length, slice_get}
 use Rattle.simd_json_parts.specs.Document.{elements}
 use Rattle.simd_json_parts.specs.Listing.{listing}
 use Rattle.simd_json_c.proofs.Placing.{ElementsLeft, elements-all, next-element}

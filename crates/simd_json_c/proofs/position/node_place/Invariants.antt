@@ -1,5 +1,4 @@
-use Rattle.std.proofs.Common.{◌≡◌, drop}
-use Rattle.std.specs.Prelude.{slice_get}
+use Rattle.std.proofs.Common.{◌≡◌, drop, slice_get}
 use Rattle.simd_json_c.specs.Located.{node_places}
 use Rattle.simd_json_c.proofs.position.node_place.Given as goal
 

@@ -1,6 +1,5 @@
-use Rattle.std.proofs.Common.{◌≡◌, sym, ◌∙◌, ap, subst, arith, ◌+◌, ◌-◌, ◌≤◌, length, take, drop}
+use Rattle.std.proofs.Common.{◌≡◌, sym, ◌∙◌, ap, subst, arith, ◌+◌, ◌-◌, ◌≤◌, length, take, drop, length-drop, take_all}
 use Rattle.std.specs.Prelude.{unwrap_or}
-use Rattle.std.proofs.lemmas.List.{length-drop, take_all}
 use Rattle.simd_json_parts.specs.Listing.{listing}
 use Rattle.simd_json_c.specs.Placed.{AreFirst}
 use Rattle.simd_json_c.proofs.Placing.{value-within}

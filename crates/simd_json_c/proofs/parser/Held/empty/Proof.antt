@@ -1,6 +1,5 @@
 -- `empty` owns nothing.
-use Rattle.std.proofs.Common.{◌≡◌, List, [], ◌∷◌, ◌++◌, refl, sym, subst, lit<}
-use Rattle.std.specs.Prelude.{Option, None}
+use Rattle.std.proofs.Common.{◌≡◌, List, [], ◌∷◌, ◌++◌, refl, sym, subst, lit<, Option, None}
 use mir.Val.{Val}
 use base.Logic.{SProp, ent, emp, id⊢}
 use base.Fml.{ftrue}
