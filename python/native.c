@@ -139,7 +139,7 @@ static int text_of(PyObject *data, text *of) {
     }
     if (PyMemoryView_Check(data))
         return view_of(data, of);
-    PyErr_Format(PyExc_TypeError, "the JSON must be str, bytes, bytearray or memoryview, not %R",
+    PyErr_Format(PyExc_TypeError, "the JSON object must be str, bytes, bytearray or memoryview, not %R",
                  Py_TYPE(data));
     return 0;
 }
@@ -153,19 +153,19 @@ static size_t character_at(const text *of, size_t index) {
 }
 
 /* Raises the error of an input, by simd_json._error: of the reason in words, the input, the index there, the kind by
- * its name, line and column. */
+ * its name, line and column, and the kind that is shown. */
 static void *reject(int32_t status, const simd_json_place *place, PyObject *data, const text *of) {
-    char name[SIMD_JSON_NAME_MAX], words[SIMD_JSON_REASON_MAX];
-    size_t name_len = simd_json_status_name(status, name, sizeof name), words_len;
+    char words[SIMD_JSON_REASON_MAX];
+    size_t words_len;
     simd_json_position at;
     if (status == SIMD_JSON_OUT_OF_MEMORY ||
-        simd_json_location(of->bytes, of->bytes ? (size_t)of->len : 0, status, place, &at, words, sizeof words,
+        simd_json_location(of->bytes, of->bytes ? (size_t)of->len : 0, 1, status, place, &at, words, sizeof words,
                            &words_len) != SIMD_JSON_OK)
         return PyErr_NoMemory();
     size_t index = PyUnicode_Check(data) ? character_at(of, at.byte) : at.byte;
-    PyObject *error = PyObject_CallFunction(to_error, "s#Ons#nn", words, (Py_ssize_t)words_len, data,
-                                            (Py_ssize_t)index, name, (Py_ssize_t)name_len, (Py_ssize_t)at.line,
-                                            (Py_ssize_t)at.column);
+    PyObject *error = PyObject_CallFunction(to_error, "s#Onsnns", words, (Py_ssize_t)words_len, data,
+                                            (Py_ssize_t)index, simd_json_status_text(status), (Py_ssize_t)at.line,
+                                            (Py_ssize_t)at.column, simd_json_status_text(at.status));
     if (error)
         PyErr_SetObject((PyObject *)Py_TYPE(error), error);
     Py_XDECREF(error);
@@ -343,67 +343,10 @@ static PyObject *to_wide(const memory *m, const simd_json_node *node) {
     return PyLong_FromString(literal, NULL, 10);
 }
 
-/* Of 1 / 5^k the first 64 bits, of which the first is 1, and how many bits 5^k has. */
-enum { MOST_BEHIND = 18 };
-static struct {
-    uint64_t first;
-    int bits;
-} inverses[MOST_BEHIND + 1];
-
-static void find_inverses(void) {
-    uint64_t five = 1;
-    for (int k = 1; k <= MOST_BEHIND; k++) {
-        five *= 5;
-        inverses[k].bits = 64 - __builtin_clzll(five);
-        inverses[k].first = (uint64_t)(((unsigned __int128)1 << (63 + inverses[k].bits)) / five);
-    }
-}
-
-/* The nearest float of a literal of at most 19 digits without an exponent, so with a point, where one rounding finds it. */
-static int read_short(const char *literal, size_t len, double *number) {
-    const int is_negative = literal[0] == '-';
-    const char *at = literal + is_negative, *end = literal + len, *point = end;
-    uint64_t digits = 0;
-    int64_t power = 1;
-    if (end - at > 20)
-        return 0;
-    for (; at < end; at++) {
-        if (*at >= '0' && *at <= '9') {
-            digits = 10 * digits + (uint64_t)(*at - '0');
-            power *= 10;
-        } else if (*at == '.') {
-            point = at;
-            power = 1;
-        } else {
-            return 0;
-        }
-    }
-    if (digits <= UINT64_C(1) << 53) {
-        /* Digits and power are floats, and their quotient is rounded (W. D. Clinger, "How to Read Floating Point Numbers
-         * Accurately", PLDI 1990). */
-        *number = (double)(int64_t)digits / (double)power;
-    } else {
-        /* Where the number is q 2^e, this is less than 2 below q. It has 63 or 64 bits, and a float 53: so it is known to which of
-         * two floats q is nearer, but not close to the middle between them, which is a multiple of 512. */
-        const int k = (int)(end - point) - 1, shift = __builtin_clzll(digits);
-        const uint64_t q = (uint64_t)((unsigned __int128)(digits << shift) * inverses[k].first >> 64);
-        if ((q + 1) % 512 < 3)
-            return 0;
-        const uint64_t bits = (uint64_t)(1023 + 2 - inverses[k].bits - shift - k) << 52;
-        double scale;
-        memcpy(&scale, &bits, sizeof scale);
-        *number = (double)(int64_t)(q >> 1) * scale;
-    }
-    if (is_negative)
-        *number = -*number;
-    return 1;
-}
-
 /* A number with a fraction or an exponent: the nearest float. */
 static PyObject *to_float(const memory *m, const simd_json_node *node) {
     double number = 0;
-    if (!read_short(m->document.text + node->value, node->len, &number))
-        simd_json_double(m->document.text + node->value, node->len, &number);
+    simd_json_double(m->document.text + node->value, node->len, &number);
     return PyFloat_FromDouble(number);
 }
 
@@ -687,48 +630,63 @@ static PyObject *check_in(memory *kept, PyObject *data, Py_ssize_t max_depth) {
     return none_if(is_right);
 }
 
-/* Copies the value that a pointer names, as it is written, to the input of `to`: 1, or 0 where there is none, or -1 and
- * an error. Of half of a surrogate pair there is no key. */
-static int find(memory *in, PyObject *pointer, memory *to, size_t *len) {
+/* Whether a text is a JSON Pointer (RFC 6901, section 3); else an error is raised. */
+static int is_pointer(PyObject *pointer, const text *of) {
+    int is_right = simd_json_is_pointer(of->bytes, (size_t)of->len);
+    if (!is_right)
+        PyErr_Format(PyExc_ValueError, "%R is no JSON Pointer (RFC 6901): write '/' before each key and index, as in"
+                                       " '/users/0/name', and in a key '~1' for '/' and '~0' for '~'", pointer);
+    return is_right;
+}
+
+/* Parses the value that a pointer names in the input that `in` keeps: 1, or 0 where it is absent or malformed, or -1
+ * and an error. Of half of a surrogate pair there is no key. */
+static int find(memory *in, PyObject *pointer, memory *to, size_t max_depth) {
     simd_json_found found = {0, 0};
+    simd_json_place place;
     text of = {NULL, 0, NULL};
     if (!PyUnicode_Check(pointer)) {
         PyErr_Format(PyExc_TypeError, "the JSON Pointer must be str, not %R", Py_TYPE(pointer));
         return -1;
     }
-    int is_utf8 = utf8_of(pointer, &of);
+    int is_asked = utf8_of(pointer, &of) && is_pointer(pointer, &of);
     int32_t status = SIMD_JSON_TOO_LITTLE_ROOM;
-    while (is_utf8 && status == SIMD_JSON_TOO_LITTLE_ROOM) {
+    while (is_asked && status == SIMD_JSON_TOO_LITTLE_ROOM) {
         status = simd_json_parser_pointer(&in->parser, of.bytes, (size_t)of.len, &found, to->input, to->input_cap);
-        if (status == SIMD_JSON_TOO_LITTLE_ROOM && !grow(&to->input, &to->input_cap, found.len + 1, 1))
-            break;
+        if (status == SIMD_JSON_TOO_LITTLE_ROOM)
+            is_asked = grow(&to->input, &to->input_cap, found.len + 1, 1);
     }
     Py_XDECREF(of.owned);
-    *len = found.len;
-    return !is_utf8 || status == SIMD_JSON_TOO_LITTLE_ROOM ? -1 : status == SIMD_JSON_OK;
+    if (status == SIMD_JSON_OK && (is_asked = prepare(to, max_depth, (Py_ssize_t)found.len)))
+        status = simd_json_parser_parse(&to->parser, to->input, found.len, &to->document, &place);
+    if (status == SIMD_JSON_OUT_OF_MEMORY)
+        PyErr_NoMemory();
+    return !is_asked || status == SIMD_JSON_OUT_OF_MEMORY ? -1 : status == SIMD_JSON_OK;
 }
 
-/* The value that a pointer names in the input that `in` keeps, or `none`. No code of users runs before the value is
- * copied. */
-static PyObject *pointer_in(memory *in, memory *kept, PyObject *pointer, PyObject *none, arguments *given) {
+/* Whether an input is a document, which is asked until it is known: then it is let go. Else its first error is raised. */
+static int is_document(memory *m, PyObject **input, size_t max_depth) {
+    PyObject *data = *input;
+    Py_XINCREF(data);
+    int is_right = !data || read_input(m, data, max_depth, simd_json_parser_check);
+    if (is_right && *input == data) /* no other thread has put another there */
+        Py_CLEAR(*input);
+    Py_XDECREF(data);
+    return is_right;
+}
+
+/* The value that a pointer names in `*input`, which `in` keeps, or in a document that has none `none`. No code of users
+ * runs before the value is copied. */
+static PyObject *pointer_in(memory *in, PyObject **input, memory *kept, PyObject *pointer, PyObject *none,
+                            arguments *given) {
     memory own, *m = take(kept, &own);
     PyObject *value = NULL;
-    size_t len;
-    int is_found = find(in, pointer, m, &len);
-    if (is_found == 0) {
+    const int is_found = find(in, pointer, m, (size_t)given->max_depth);
+    if (is_found == 1) {
+        value = build_any(m, given->hooks);
+    } else if (is_found == 0 && is_document(m, input, (size_t)given->max_depth)) {
         Py_INCREF(none);
         value = none;
-    } else if (is_found == 1 && prepare(m, (size_t)given->max_depth, (Py_ssize_t)len)) {
-        simd_json_place place;
-        int32_t status = simd_json_parser_parse(&m->parser, m->input, len, &m->document, &place);
-        if (status == SIMD_JSON_OK) {
-            value = build_any(m, given->hooks);
-        } else if (find(in, pointer, m, &len) == 1) { /* again, since the parse has overwritten it */
-            text of = {m->input, (Py_ssize_t)len, PyUnicode_DecodeUTF8(m->input, (Py_ssize_t)len, NULL)};
-            if (of.owned)
-                reject(status, &place, of.owned, &of);
-            Py_XDECREF(of.owned);
-        }
     }
     give_back(m, &own);
     return value;
@@ -768,9 +726,12 @@ static PyObject *check(PyObject *module, PyObject *args, PyObject *named) {
 /* The value that a pointer names in the input, or `none`. */
 static PyObject *pointer_once(PyObject *pointer, PyObject *none, arguments *given) {
     memory own, *m = take(&shared, &own); /* while it is scanned other threads may run */
-    int is_scanned = read_input(m, given->data, (size_t)given->max_depth, simd_json_parser_scan);
+    PyObject *input = given->data;
+    int is_scanned = read_input(m, input, (size_t)given->max_depth, simd_json_parser_scan);
     m->in_use = 0;
-    PyObject *value = is_scanned ? pointer_in(m, m, pointer, none, given) : NULL;
+    Py_INCREF(input);
+    PyObject *value = is_scanned ? pointer_in(m, &input, m, pointer, none, given) : NULL;
+    Py_XDECREF(input);
     give_back(m, &own);
     keep_little();
     return value;
@@ -795,7 +756,7 @@ static PyObject *pointer(PyObject *module, PyObject *args, PyObject *named) {
 typedef struct {
     PyObject_HEAD memory kept, indexed;
     Py_ssize_t max_depth;
-    PyObject *hooks[HOOKS];
+    PyObject *hooks[HOOKS], *scanned; /* the input that is indexed, until it is known to be a document */
 } parser;
 
 /* What a subclass has that does not call __init__. */
@@ -822,6 +783,7 @@ static int parser_init(PyObject *self, PyObject *args, PyObject *named) {
 static int parser_traverse(PyObject *self, visitproc visit, void *arg) {
     for (int i = 0; i < HOOKS; i++)
         Py_VISIT(((parser *)self)->hooks[i]);
+    Py_VISIT(((parser *)self)->scanned);
     Py_VISIT(Py_TYPE(self));
     return 0;
 }
@@ -829,6 +791,7 @@ static int parser_traverse(PyObject *self, visitproc visit, void *arg) {
 static int parser_clear(PyObject *self) {
     for (int i = 0; i < HOOKS; i++)
         Py_CLEAR(((parser *)self)->hooks[i]);
+    Py_CLEAR(((parser *)self)->scanned);
     return 0;
 }
 
@@ -882,10 +845,16 @@ static PyObject *parser_scan(PyObject *self, PyObject *data) {
         return NULL;
     Py_INCREF(self);
     p->indexed.in_use = 1;
-    int is_scanned = read_input(&p->indexed, data, (size_t)p->max_depth, simd_json_parser_scan);
+    const int is_scanned = read_input(&p->indexed, data, (size_t)p->max_depth, simd_json_parser_scan);
+    const int may_change = PyByteArray_Check(data) || PyMemoryView_Check(data);
+    PyObject *input = is_scanned ? may_change ? PyBytes_FromObject(data) : data : NULL, *old = p->scanned;
+    if (input == data)
+        Py_INCREF(data);
+    p->scanned = input;
     p->indexed.in_use = 0;
+    Py_XDECREF(old);
     Py_DECREF(self);
-    return none_if(is_scanned);
+    return none_if(input != NULL);
 }
 
 static PyObject *parser_pointer(PyObject *self, PyObject *args, PyObject *named) {
@@ -895,7 +864,10 @@ static PyObject *parser_pointer(PyObject *self, PyObject *args, PyObject *named)
     if (!PyArg_ParseTupleAndKeywords(args, named, "O|O:pointer", names, &pointer, &none) || !is_free(&p->indexed))
         return NULL;
     arguments given = begin_call(self, NULL);
-    return end_call(self, &given, pointer_in(&p->indexed, &p->kept, pointer, none, &given));
+    Py_INCREF(none); /* as in pointer */
+    PyObject *value = pointer_in(&p->indexed, &p->scanned, &p->kept, pointer, none, &given);
+    Py_DECREF(none);
+    return end_call(self, &given, value);
 }
 
 static PyMethodDef parser_methods[] = {
@@ -910,9 +882,10 @@ static PyMethodDef parser_methods[] = {
      "SimdJsonError."},
     {"pointer", (PyCFunction)(void (*)(void))parser_pointer, METH_VARARGS | METH_KEYWORDS,
      "pointer($self, pointer, /, default=None)\n--\n\n"
-     "The value that a JSON Pointer (RFC 6901) names in what scan has kept, or default.\n\n"
+     "The value that a JSON Pointer (RFC 6901) names in what scan has kept, or in a document without it default.\n\n"
      "Only the value and what is on the way to it are checked: it may also be found in an input that is not a\n"
-     "document. SimdJsonError is raised for an error in the value, whose text is doc."},
+     "document. Where it is malformed or absent, the input is checked: SimdJsonError is raised as by loads, or\n"
+     "default returned. ValueError is raised if the pointer is malformed."},
     {NULL, NULL, 0, NULL},
 };
 
@@ -956,8 +929,7 @@ static PyMethodDef functions[] = {
     {"pointer", (PyCFunction)(void (*)(void))pointer, METH_VARARGS | METH_KEYWORDS,
      "pointer(data, pointer, /, default=None, *, max_depth=1024)\n--\n\n"
      "The value that a JSON Pointer (RFC 6901) names in a document, or default.\n\n"
-     "Only the value and what is on the way to it are checked: it may also be found in an input that is not a\n"
-     "document. For several values of one document Parser.scan and Parser.pointer are faster."},
+     "As Parser.scan and Parser.pointer, which are faster for several values of one document."},
     {"_set_error", set_error, METH_O, NULL},
     {NULL, NULL, 0, NULL},
 };
@@ -994,7 +966,6 @@ static int is_home(void) {
 static int begin(PyObject *module) {
     const char *version = VERSION(SIMD_JSON_VERSION_MAJOR, SIMD_JSON_VERSION_MINOR, SIMD_JSON_VERSION_PATCH);
     PyObject *type = is_home() ? PyType_FromSpec(&parser_spec) : NULL;
-    find_inverses();
     if (!type || PyModule_AddStringConstant(module, "__version__", version) < 0
         || PyModule_AddObject(module, "Parser", type) < 0) {
         Py_XDECREF(type);

@@ -3,18 +3,21 @@
     import simd_json
     simd_json.loads(b'{"the_answer": 42}')["the_answer"]
 
+It reads only: dump, dumps and JSONEncoder are json's, so `import simd_json as json` does for both.
+
 The parse is proved: what is accepted, the nodes, the first error and its place. What makes Python
 values of the nodes is C code that is only tested.
 
 One interpreter of a process can import it, the first that does; others get ImportError.
 """
 
-from json import JSONDecodeError
+from json import JSONDecodeError, JSONEncoder, dump, dumps
 
 from . import _native
 from ._native import __version__, check, loads, pointer
 
-__all__ = ["Parser", "SimdJsonError", "check", "load", "loads", "pointer"]
+__all__ = ["JSONDecodeError", "JSONEncoder", "Parser", "SimdJsonError", "check", "dump", "dumps", "load", "loads",
+           "pointer"]
 
 
 class SimdJsonError(JSONDecodeError):
@@ -27,17 +30,18 @@ class SimdJsonError(JSONDecodeError):
         follows a document its first
     reason: its kind, as "InvalidNumber"
     lineno, colno: the line, and the column in characters, both from 1
+    shown: the kind that str() has, "TrailingData" for text after any document
     """
 
-    def __init__(self, msg, doc, pos, reason, lineno, colno):
+    def __init__(self, msg, doc, pos, reason, lineno, colno, shown=None):
         # not json's, which counts lines itself, in a str
-        ValueError.__init__(self, f"{msg}: line {lineno} column {colno} ({reason} at {pos})")
+        ValueError.__init__(self, f"{msg}: line {lineno} column {colno} ({shown or reason} at {pos})")
         self.msg, self.doc, self.pos, self.reason = msg, doc, pos, reason
-        self.lineno, self.colno = lineno, colno
+        self.lineno, self.colno, self.shown = lineno, colno, shown or reason
 
     def __reduce__(self):
         doc = None if isinstance(self.doc, memoryview) else self.doc
-        return type(self), (self.msg, doc, self.pos, self.reason, self.lineno, self.colno)
+        return type(self), (self.msg, doc, self.pos, self.reason, self.lineno, self.colno, self.shown)
 
 
 _BLOCK = 1 << 20
@@ -55,12 +59,12 @@ def _place_in_view(view, index):
     return lineno, colno
 
 
-def _error(msg, doc, pos, reason, lineno, colno):
+def _error(msg, doc, pos, reason, lineno, colno, shown):
     if reason == "InputTooLarge" and isinstance(doc, memoryview):
         lineno, colno = _place_in_view(doc, pos)
     if reason == "InvalidUtf8" and isinstance(doc, str):
         msg = "half of a surrogate pair"
-    return SimdJsonError(msg, doc, pos, reason, lineno, colno)
+    return SimdJsonError(msg, doc, pos, reason, lineno, colno, shown)
 
 
 _native._set_error(_error)
@@ -98,8 +102,10 @@ class Parser(_native.Parser):
                 except SimdJsonError as error:
                     if error.doc is not line:  # of what a hook has parsed
                         raise
-                    error = SimdJsonError(error.msg, line, error.pos, error.reason, number,
-                                          error.colno)
+                    # what is open there begins in this line too
+                    msg = error.msg.replace(" begins at 1:", f" begins at {number}:")
+                    error = SimdJsonError(msg, line, error.pos, error.reason, number, error.colno,
+                                          error.shown)
                     if on_error is None:
                         raise error from None
                     on_error(error)

@@ -1,5 +1,5 @@
 from collections.abc import Callable, Iterable, Iterator
-from json import JSONDecodeError
+from json import JSONDecodeError as JSONDecodeError, JSONEncoder as JSONEncoder, dump as dump, dumps as dumps
 from typing import Any, Protocol
 
 _Text = str | bytes | bytearray | memoryview
@@ -12,8 +12,16 @@ class SimdJsonError(JSONDecodeError):
     reason: str
     lineno: int
     colno: int
+    shown: str
     def __init__(
-        self, msg: str, doc: _Text, pos: int, reason: str, lineno: int, colno: int
+        self,
+        msg: str,
+        doc: _Text,
+        pos: int,
+        reason: str,
+        lineno: int,
+        colno: int,
+        shown: str | None = None,
     ) -> None: ...
 
 class _File(Protocol):

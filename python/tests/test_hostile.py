@@ -132,7 +132,7 @@ class Hostile:
         """All threads scan with one parser, which lets one in at a time."""
         try:
             SHARED.scan(text)
-            SHARED.pointer("/2")
+            SHARED.pointer("/2"), SHARED.pointer("/absent")
         except RuntimeError as error:
             assert "another thread" in str(error)
 
@@ -148,7 +148,7 @@ class Hostile:
                 SHARED.check(text)
             elif act == 9 and parser is not None:
                 parser.scan(text)
-                parser.pointer("/1")
+                parser.pointer("/1"), parser.pointer("/absent")
             elif act == 10:
                 simd_json.pointer(text, "/0")
                 self.on_demand(text)

@@ -31,13 +31,21 @@ def calls():
     yield lambda: simd_json.loads(TEXT, object_hook=id, parse_int=str)
     yield lambda: simd_json.loads(TEXT, object_pairs_hook=tuple, parse_float=str)
     yield lambda: simd_json.pointer(TEXT, "/a/3")
+    yield lambda: simd_json.pointer(TEXT, "/absent")
     yield found
+    yield absent
 
 
 def found():
     parser = simd_json.Parser(object_hook=id)
     parser.scan(TEXT)
     return parser.pointer("/long"), parser.pointer("")
+
+
+def absent():
+    parser = simd_json.Parser()
+    parser.scan(bytearray(TEXT))
+    return parser.pointer("/absent"), parser.pointer("/absent")
 
 
 def nested():

@@ -1,7 +1,8 @@
-"""Tests of the package, beside Python's json: the rows of tests/vectors, mutants, Python's own documents for json, and types.
+"""Tests of the package, beside Python's json: the rows of tests/vectors, mutants, and types.
 
     python3 -m unittest discover python/tests     with the wheel on the path
 """
+import ast
 import contextlib
 import copy
 import ctypes
@@ -13,10 +14,12 @@ import os
 import pathlib
 import pickle
 import random
+import re
 import subprocess
 import sys
 import tempfile
 import unittest
+import unittest.mock
 import weakref
 
 import simd_json
@@ -245,8 +248,11 @@ class Values(unittest.TestCase):
                 wanted = absent if answer.startswith("! ") else json.loads(rows.decoded(answer.encode()))
                 parser = simd_json.Parser()
                 parser.scan(document)
-                self.assertEqual(simd_json.pointer(document, pointer, absent), wanted, line)
-                self.assertEqual(parser.pointer(pointer, absent), wanted, line)
+                for call in (lambda *given: simd_json.pointer(document, *given), parser.pointer):
+                    if re.fullmatch("(/([^~/]|~[01])*)*", pointer):
+                        self.assertEqual(call(pointer, absent), wanted, line)
+                    else:
+                        self.assertRaisesRegex(ValueError, "is no JSON Pointer", call, pointer, absent)
                 judged += 1
         self.assertGreater(judged, 100)
 
@@ -260,10 +266,10 @@ class Values(unittest.TestCase):
         for _ in range(MUTANTS // 20):
             data = changed(rng)
             pairs = by(simd_json.loads, data, object_pairs_hook=lambda pairs: dict(reversed(pairs)))
-            if isinstance(pairs, simd_json.SimdJsonError):  # by what is found nothing is known
+            if isinstance(pairs, simd_json.SimdJsonError):  # a value may be found, but none is absent
                 if not isinstance(by(parser.scan, data), simd_json.SimdJsonError):
                     for pointer in ("", "/0", "/a", "/a/0"):
-                        by(parser.pointer, pointer)
+                        self.assertIsNot(by(parser.pointer, pointer, absent), absent, (data, pointer))
                 continue
             parser.scan(data)
             for pointer, value in walk(pairs, ""):
@@ -272,14 +278,12 @@ class Values(unittest.TestCase):
                     self.assertEqual(repr(parser.pointer(pointer, absent)), repr(value), (data, pointer))
 
     def test_pointer_s_arguments(self):
-        data = '{"a":[1,{"b/c":"é"}],"wrong":[1,\n01],"deep":[[[]]]}'
+        data = '{"a":[1,{"b/c":"é"}],"deep":[[[]]]}'
         for kind in (str, str.encode, lambda text: bytearray(text.encode()), lambda text: memoryview(text.encode())):
             self.assertEqual(simd_json.pointer(kind(data), "/a/1/b~1c"), "é")
             self.assertEqual((simd_json.pointer(kind(data), "/b"), simd_json.pointer(kind(data), "/b", 7)), (None, 7))
-        self.assertEqual((simd_json.pointer(data, "a", 1), simd_json.pointer(data, "/\ud800", 1)), (1, 1))
         self.assertEqual(simd_json.pointer(data, "/a", default=1)[0], 1)
-        error = by(simd_json.pointer, data, "/wrong")
-        self.assertEqual((error.reason, error.doc, error.pos, error.lineno, error.colno), ("InvalidNumber", "[1,\n01]", 5, 2, 2))
+        self.assertEqual(simd_json.pointer(data, "/\ud800", 1), 1)
         self.assertEqual(by(simd_json.pointer, data, "/deep", max_depth=2).reason, "DepthLimitExceeded")
         self.assertEqual(by(simd_json.pointer, b'["\xff"]', "/0").reason, "InvalidUtf8")
         for given in ((data, 1), (1, "/a"), (data, None), (data, b"/a")):
@@ -299,15 +303,88 @@ class Values(unittest.TestCase):
         parser.__init__(max_depth=1)
         self.assertEqual(by(parser.pointer, "").__class__, list)
 
+    def test_wrong_is_not_absent(self):
+        """A pointer that is none is an error, and an input that is no document has no absent values: the error is that of loads."""
+        for pointer in ("a", "$.a", ".a", "a/0", "/~", "/a~", "/~2", "/~~0", "~0", " /a"):
+            for call in (lambda: simd_json.pointer('{"a":1}', pointer, 7), lambda: simd_json.Parser().pointer(pointer, 7)):
+                with self.assertRaisesRegex(ValueError, "^'.*' is no JSON Pointer .*: write '/' before each key and index"):
+                    call()
+        for wrong, pointers in (('{"a":{"n":1%s},"b":1}' % ("0" * 40), ["/a/n", "/a", "/a/x", "/x", ""]),
+                                ('{"é":[1,\n01],"a":[nope],"b":1}', ["/é", "/é/1", "/a/0", "/x"]), ("nope", ["", "/a"]),
+                                ("\n1.e", [""]), ('[[1] "x"]', ["/1", ""])):
+            for kind in (str, str.encode, lambda text: bytearray(text.encode()), lambda text: memoryview(text.encode())):
+                data, parser = kind(wrong), simd_json.Parser()
+                wanted = by(simd_json.loads, data)
+                parser.scan(data)
+                for pointer in pointers * 2:
+                    for error in (by(simd_json.pointer, data, pointer, 7), by(parser.pointer, pointer, 7)):
+                        self.assertEqual((str(error), error.doc), (str(wanted), wanted.doc), pointer)
+                if '"b"' in wrong:
+                    self.assertEqual((simd_json.pointer(data, "/b"), parser.pointer("/b")), (1, 1))
+        parser.scan('{"n":null,"a":01}')  # a default that is also a value
+        self.assertIsNone(parser.pointer("/n"))
+        self.assertEqual(by(parser.pointer, "/a").reason, "InvalidNumber")
+        data = bytearray(b'{"a":01}')  # what is checked is what was scanned
+        parser.scan(data)
+        data[:] = b'{"a":10}'
+        self.assertEqual(by(parser.pointer, "/a").reason, "InvalidNumber")
+
+    def test_what_is_known_to_be_right_is_let_go(self):
+        class Text(str):
+            pass
+
+        data, parser = Text('{"a":[]}'), simd_json.Parser()
+        parser.scan(data)
+        gone = weakref.ref(data)
+        del data
+        self.assertEqual((parser.pointer("/a"), gone() is None), ([], False))
+        self.assertEqual((parser.pointer("/b"), gone() is None), (None, True))
+        self.assertEqual((parser.pointer("/b"), parser.pointer("/a")), (None, []))
+        data = Text("[]")
+        data.parser = parser
+        parser.scan(data)  # which is in a cycle
+        gone = weakref.ref(data)
+        del data, parser
+        gc.collect()
+        self.assertIsNone(gone())
+
     def test_program(self):
         with tempfile.TemporaryDirectory() as folder:
             right, wrong = pathlib.Path(folder, "right"), pathlib.Path(folder, "wrong")
             right.write_bytes(b"[1]")
             wrong.write_bytes(b"[1,\n x]")
-            for names, status, out in (([right], 0, ""), ([], 0, ""), ([folder], 3, ""),
-                                       ([wrong, right], 1, f"{wrong}:2:2: expected a value, found `x` [InternalError at byte 5]\n")):
-                ran = subprocess.run([sys.executable, "-m", "simd_json", *map(str, names)], capture_output=True, text=True)
+            told = "2:2: expected a value, found `x` [InternalError at byte 5]\n"
+            for names, status, out, reason in (
+                    ([right], 0, "", ""), ([folder, wrong], 3, f"{wrong}:{told}", f"{folder}: Is a directory\n"),
+                    ([wrong, right], 1, f"{wrong}:{told}", ""), ([], 1, f"-:{told}", ""), (["--", "-"], 1, f"-:{told}", ""),
+                    ([right, "-"], 1, f"-:{told}", ""), (["--frobnicate"], 2, "", "error: unrecognized arguments: --frobnicate\n"),
+                    (["--version"], 0, f"simd_json {simd_json.__version__}\n", "")):
+                ran = subprocess.run([sys.executable, "-m", "simd_json", *map(str, names)], capture_output=True, text=True,
+                                     input="[1,\n x]")
                 self.assertEqual((ran.returncode, ran.stdout), (status, out))
+                self.assertEqual(ran.stderr.partition("python -m simd_json: ")[2], reason)
+        ran = subprocess.run([sys.executable, "-m", "simd_json", "--help"], capture_output=True, text=True)
+        self.assertEqual((ran.returncode, ran.stderr), (0, ""))
+        self.assertIn("[FILE ...]", ran.stdout)
+        for text, told in (  # as of jcheck
+                ("[1] 2", "1:5: more text after the document [TrailingData at byte 4]"),
+                ("1 2", "1:3: more text after the document [TrailingData at byte 2]"),
+                ('{"a": "b,\n "c": 1}', "1:10: a line feed in the string that begins at 1:7 [Syntax at byte 9]"),
+                ('["é"]\n{"a\tb": 1}', "2:4: a tab in the string that begins at 2:2 [Syntax at byte 10]"),
+                (']["é\\"", ["[\x01"]]', "1:13: control character 1 in the string that begins at 1:11 [Syntax at byte 13]"),
+                ("[1,2", "1:4: the input ends after this, within the array that begins at 1:1 [Syntax at byte 3]"),
+                ('["}",\n {"é":[]}, {"]": 1', "2:18: the input ends after this, within the object that begins at 2:12 [Syntax at byte 24]")):
+            ran = subprocess.run([sys.executable, "-m", "simd_json"], capture_output=True, text=True, input=text)
+            self.assertEqual(ran.stdout, f"-:{told}\n")
+
+    def test_program_s_memory(self):
+        """Where there is too little, a line says of which file, and the others are checked."""
+        import simd_json.__main__ as program
+
+        with tempfile.NamedTemporaryFile() as file, contextlib.redirect_stderr(io.StringIO()) as told, \
+                unittest.mock.patch.object(program, "check", side_effect=[MemoryError, None]) as checked:
+            self.assertEqual(program.check_files([file.name, file.name]), 3)
+        self.assertEqual((told.getvalue(), checked.call_count), (f"python -m simd_json: {file.name}: out of memory\n", 2))
 
     def test_program_s_names(self):
         """A name is bytes, as the system has it, and need not be UTF-8."""
@@ -326,12 +403,12 @@ class Values(unittest.TestCase):
             command = [sys.executable, "-m", "simd_json", *[file.name] * 3000]
             with open("/dev/full", "w") as full:
                 ran = subprocess.run(command, stdout=full, stderr=subprocess.PIPE, text=True)
-            self.assertEqual((ran.returncode, ran.stderr), (3, "standard output: No space left on device\n"))
+            self.assertEqual((ran.returncode, ran.stderr), (3, "python -m simd_json: standard output: No space left on device\n"))
             reader, writer = os.pipe()
             os.close(reader)
             ran = subprocess.run(command, stdout=writer, stderr=subprocess.PIPE, text=True)
             os.close(writer)
-            self.assertEqual((ran.returncode, ran.stderr), (3, ""))
+            self.assertEqual((ran.returncode, ran.stderr), (1, ""))
 
     def test_depth(self):
         for depth in (1, 1000, 1024):
@@ -438,17 +515,6 @@ class Values(unittest.TestCase):
         del value
         self.assertEqual((found, len(looks)), ([], 8))
 
-    def test_python_s_own_documents(self):
-        try:
-            from test.test_json import test_fail, test_pass1, test_pass2, test_pass3
-        except ImportError:
-            self.skipTest("Python's tests are not installed")
-        for document in (test_pass1.JSON, test_pass2.JSON, test_pass3.JSON):
-            self.assertEqual(simd_json.loads(document), json.loads(document))
-        for number, document in enumerate(test_fail.JSONDOCS, 1):
-            if number not in test_fail.SKIPS:
-                self.assertIsInstance(by(simd_json.loads, document), simd_json.SimdJsonError, document)
-
 
 class Errors(unittest.TestCase):
     def test_places(self):
@@ -493,6 +559,7 @@ class Errors(unittest.TestCase):
             for call in (simd_json.loads, simd_json.check, simd_json.Parser().loads, simd_json.Parser().check):
                 error = by(call, text)
                 self.assertEqual((error.reason, error.msg), (reason, "more text after the document"))
+                self.assertEqual(str(error), f"{error.msg}: line {place[1]} column {place[2]} (TrailingData at {place[0]})")
                 self.assertEqual((error.pos, error.lineno, error.colno), place, text)
                 data = text.encode()
                 for doc in (data, bytearray(data), memoryview(data)):
@@ -578,6 +645,12 @@ class Kept(unittest.TestCase):
             list(parser.lines(["[1]", "\n", "[é,é]"]))
         self.assertEqual(place(caught.exception), ("InternalError", 1, 3, 2))
         self.assertEqual(caught.exception.doc, "[é,é]")
+        self.assertEqual(list(parser.lines(['["a",\n', "[1] 2\n", '{"é\t"}'], on_error=errors.append)), [])
+        self.assertEqual([str(error) for error in errors[3:]], [
+            "the input ends after this, within the array that begins at 1:1: line 1 column 5 (Syntax at 4)",
+            "more text after the document: line 2 column 5 (TrailingData at 4)",
+            "a tab in the string that begins at 3:2: line 3 column 4 (Syntax at 3)"])
+        del errors[3:]
         views = [memoryview(line) for line in log.splitlines(keepends=True)]
         self.assertEqual(list(parser.lines(views, on_error=errors.append)), [{"a": 1}, [3], 6])
         self.assertEqual([place(error) for error in errors], wanted * 2)
@@ -586,7 +659,7 @@ class Kept(unittest.TestCase):
         for line in (1, None, [], ["[1]"]):
             values = simd_json.Parser().lines(["[1]", line])
             self.assertEqual(next(values), [1])
-            with self.assertRaisesRegex(TypeError, "the JSON must be str, bytes, bytearray or memoryview"):
+            with self.assertRaisesRegex(TypeError, "the JSON object must be str, bytes, bytearray or memoryview"):
                 next(values)
 
     def test_a_subclass_need_not_call_init(self):
@@ -631,17 +704,21 @@ class Kept(unittest.TestCase):
 
     def test_stub(self):
         """What can be imported by the stub is there, and called in the same way."""
-        said = {}
-        exec(pathlib.Path(simd_json.__file__).with_suffix(".pyi").read_text(), said)
-        imported = {"Any", "Callable", "Iterable", "Iterator", "JSONDecodeError", "Protocol"}
+        said, text = {}, pathlib.Path(simd_json.__file__).with_suffix(".pyi").read_text()
+        exec(text, said)
+        imported = {"Any", "Callable", "Iterable", "Iterator", "Protocol"}
         names = {name for name in said if not name.startswith("_")} - imported
         self.assertEqual(names, set(simd_json.__all__))
+        # What is json's is exported for type checkers only if it is named again.
+        again = {each.asname for part in ast.parse(text).body if isinstance(part, ast.ImportFrom) for each in part.names}
+        self.assertEqual(again - {None}, {"JSONDecodeError", "JSONEncoder", "dump", "dumps"})
 
         def parameters(of):
             return [(each.name, each.kind, each.default) for each in inspect.signature(of).parameters.values()]
 
         methods = {name for name in vars(said["Parser"]) if not name.startswith("_")}
-        pairs = [(said[name], getattr(simd_json, name)) for name in names - {"load"}]  # which passes keywords on
+        own = {name for name in names if getattr(simd_json, name) is not getattr(json, name, None)} - {"load"}  # which passes keywords on
+        pairs = [(said[name], getattr(simd_json, name)) for name in own]
         pairs += [(getattr(said["Parser"], name), getattr(simd_json.Parser, name)) for name in methods]
         for stub, found in pairs:
             self.assertEqual(sorted(parameters(stub)), sorted(parameters(found)), found)
