@@ -65,6 +65,8 @@ numbered! {
         InvalidEscape = 17,
         /// A malformed `\u` escape, or half of a surrogate pair.
         InvalidUnicodeCodepoint = 18,
+        /// A malformed JSON Pointer, in which the index is. It has no location in an input.
+        InvalidPointer = 22,
     }
 }
 
@@ -115,6 +117,18 @@ impl Error {
     }
 }
 
+/// Whether a JSON Pointer is well-formed (RFC 6901, section 3), or where it is not.
+pub(crate) fn check_pointer(pointer: &str) -> Result<(), Error> {
+    let is_wrong = |&(at, c): &(usize, char)| match c {
+        '~' if at > 0 => !pointer[at + 1..].starts_with(['0', '1']),
+        _ => at == 0 && c != '/',
+    };
+    match pointer.char_indices().find(is_wrong) {
+        Some((index, c)) => Err(Error { kind: ErrorType::InvalidPointer, index, character: Some(c) }),
+        None => Ok(()),
+    }
+}
+
 /// Where and why an input is rejected: [`Error::location`].
 #[derive(Clone, Debug, PartialEq, Eq)]
 pub struct Location {
@@ -154,10 +168,10 @@ impl fmt::Display for Location {
 impl fmt::Display for Error {
     fn fmt(&self, f: &mut fmt::Formatter<'_>) -> fmt::Result {
         write!(f, "{} at character {}", self.kind, self.index)?;
-        match self.character {
-            Some(character) => write!(f, " ('{character}')"),
-            None => Ok(()),
+        if let Some(character) = self.character {
+            write!(f, " ('{character}')")?;
         }
+        f.write_str(if self.kind == ErrorType::InvalidPointer { ": write `/a/0`, with `~0` for `~`" } else { "" })
     }
 }
 

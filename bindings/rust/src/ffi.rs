@@ -1,6 +1,5 @@
 //! The calls of the library, which `include/simd_json.h` documents: all that is `unsafe` in this crate.
-use crate::error::{Error, ErrorType, Location};
-use crate::number::nearest;
+use crate::error::{check_pointer, Error, ErrorType, Location};
 use crate::value::{Tape, Value, ValueType};
 use std::ffi::c_void;
 use std::{fmt, ptr, slice, str};
@@ -62,8 +61,11 @@ impl<'n, 't> Nodes<'n, 't> {
     }
 
     /// What a JSON Pointer names in the value that the first begins.
-    pub(crate) fn pointer(self, pointer: &str) -> Option<Nodes<'n, 't>> {
-        self.named(simd_json_pointer, pointer)
+    pub(crate) fn pointer(self, pointer: &str) -> Result<Option<Nodes<'n, 't>>, Error> {
+        match self.named(simd_json_pointer, pointer) {
+            None => check_pointer(pointer).map(|()| None),
+            found => Ok(found),
+        }
     }
 
     fn named(self, call: LookUp, name: &str) -> Option<Nodes<'n, 't>> {
@@ -102,10 +104,13 @@ impl<'n, 't> Nodes<'n, 't> {
         }
     }
 
-    /// The double nearest to the literal of one of them.
+    /// The double nearest to the literal of one of them; infinite where it is past the greatest.
     #[inline]
     pub(crate) fn double(self, node: &Node) -> f64 {
-        nearest(self.text(node).as_bytes())
+        let (literal, mut number) = (self.text(node), 0.0);
+        // SAFETY: the literal is only read, and the number written, until the call returns.
+        unsafe { simd_json_double(literal.as_ptr(), literal.len(), &mut number) };
+        number
     }
 
     /// The integer whose literal one of them has: 128 bits, of a negative one in two's complement.
@@ -132,6 +137,7 @@ pub(crate) struct Position {
     pub(crate) byte: usize,
     pub(crate) line: usize,
     pub(crate) column: usize,
+    status: i32,
 }
 
 #[repr(C)]
@@ -171,14 +177,14 @@ impl Document {
 
 const OK: i32 = 0;
 const TOO_LITTLE_ROOM: i32 = 19;
-const REASON_MAX: usize = 64;
+const REASON_MAX: usize = 128;
 
 type LookUp = unsafe extern "C" fn(*const Node, usize, *const u8, usize, usize, *const u8, usize) -> usize;
 type Read = unsafe extern "C" fn(*mut RawParser, *const u8, usize, *mut Place) -> i32;
 
 // A number without a name is the length of what the pointer before it points to.
 extern "C" {
-    fn simd_json_check(input: *const u8, _: usize, max_depth: usize, place: *mut Place) -> i32;
+    fn simd_json_double(literal: *const u8, _: usize, number: *mut f64) -> i32;
     fn simd_json_integer(literal: *const u8, _: usize, low: *mut u64, high: *mut u64) -> i32;
     fn simd_json_get(_: *const Node, _: usize, _: *const u8, _: usize, object: usize, _: *const u8, _: usize) -> usize;
     fn simd_json_pointer(_: *const Node, _: usize, _: *const u8, _: usize, at: usize, _: *const u8, _: usize) -> usize;
@@ -196,6 +202,7 @@ extern "C" {
     fn simd_json_location(
         input: *const u8,
         _: usize,
+        first_line: usize,
         status: i32,
         place: *const Place,
         position: *mut Position,
@@ -210,14 +217,7 @@ extern "C" {
     fn simd_json_parser_check(_: *mut RawParser, input: *const u8, _: usize, place: *mut Place) -> i32;
     fn simd_json_parser_scan(_: *mut RawParser, input: *const u8, _: usize, place: *mut Place) -> i32;
     fn simd_json_parser_parse(_: *mut RawParser, _: *mut u8, _: usize, _: *mut Document, place: *mut Place) -> i32;
-    fn simd_json_parser_pointer(
-        parser: *mut RawParser,
-        pointer: *const u8,
-        _: usize,
-        found: *mut Found,
-        out: *mut u8,
-        _: usize,
-    ) -> i32;
+    fn simd_json_parser_pointer(_: *mut RawParser, _: *const u8, _: usize, _: *mut Found, _: *mut u8, _: usize) -> i32;
 }
 
 /// The place and the reason of an error in the input that it is of.
@@ -227,7 +227,7 @@ pub(crate) fn located(input: &[u8], error: &Error) -> Result<Location, Error> {
     let (text, len, status, out) = (input.as_ptr(), input.len(), error.kind as i32, reason.as_mut_ptr());
     // SAFETY: input and place are only read, and the rest is written, until the call returns.
     let status =
-        unsafe { simd_json_location(text, len, status, &place, &mut position, out, REASON_MAX, &mut needed) };
+        unsafe { simd_json_location(text, len, 1, status, &place, &mut position, out, REASON_MAX, &mut needed) };
     let reason = String::from_utf8_lossy(&reason[..needed]).into_owned();
     if status == OK { Ok(Location { position, reason }) } else { Err(OUT_OF_MEMORY) }
 }
@@ -247,10 +247,7 @@ pub(crate) fn node_position(input: &[u8], node: usize) -> Option<Position> {
 ///
 /// The first error of the input, with its kind, index and character.
 pub fn check(input: &[u8]) -> Result<(), Error> {
-    let mut place = NO_PLACE;
-    // SAFETY: the input is only read, and the place written, until the call returns.
-    let status = unsafe { simd_json_check(input.as_ptr(), input.len(), MAX_DEPTH, &mut place) };
-    result_of(status, &place)
+    Buffers::default().check(input)
 }
 
 const MAX_DEPTH: usize = 1024;
@@ -320,6 +317,7 @@ impl Parser {
     }
 
     /// The nodes of an input, and the input with their texts, which so outlive the nodes.
+    #[cfg(feature = "serde")]
     pub(crate) fn nodes<'n, 't>(&'n mut self, input: &'t mut [u8]) -> Result<Nodes<'n, 't>, Error> {
         let document = self.parse(input)?;
         // SAFETY: both are borrowed as long.
@@ -388,7 +386,7 @@ impl Buffers {
     ///
     /// The first error of the input, with its kind, index and character.
     pub fn parse<'a>(&'a mut self, input: &'a mut [u8]) -> Result<Tape<'a>, Error> {
-        self.parser.parse(input).map(Tape::lent)
+        self.parser.parse(input).map(|document| Tape::new(document, None))
     }
 
     /// The value of an input that is left as it is, since a copy is parsed.
@@ -415,9 +413,9 @@ impl Buffers {
     ///
     /// An error of the whole input: its size, its encoding, or a string that has no end or contains a byte below 0x20.
     /// Whether it is a document is not checked.
-    pub fn scan(&mut self, input: &[u8]) -> Result<Index<'_>, Error> {
+    pub fn scan<'b>(&'b mut self, input: &'b [u8]) -> Result<Index<'b>, Error> {
         self.parser.read(input, simd_json_parser_scan)?;
-        Ok(Index { buffers: self })
+        Ok(Index { buffers: self, input, outcome: None })
     }
 }
 
@@ -433,21 +431,33 @@ impl Buffers {
 #[derive(Debug)]
 pub struct Index<'buffers> {
     buffers: &'buffers mut Buffers,
+    input: &'buffers [u8],
+    // of a check of the input, once there was one
+    outcome: Option<Result<(), Error>>,
 }
 
 impl Index<'_> {
-    /// The value that a JSON Pointer (RFC 6901) names, or `None`. Only the value and what is on the way to it are
-    /// checked: it may also be found in an input that is not a document.
+    /// The value that a JSON Pointer (RFC 6901) names, or `None` if the document lacks it. Only the value and what is
+    /// on the way to it are checked: it may also be found in an input that is not a document. Where there is none, the
+    /// input is checked, once for all pointers.
     ///
     /// # Errors
     ///
-    /// The first error of the value, whose index counts from its first byte.
+    /// `InvalidPointer` if the pointer is malformed; the first error of the input, if the value is malformed or there
+    /// is none.
     pub fn pointer(&mut self, pointer: &str) -> Result<Option<Value<'_>>, Error> {
         let Buffers { parser, copy } = &mut *self.buffers;
-        match parser.pointer(pointer, copy)? {
-            Some(len) => parser.nodes(&mut copy[..len]).map(|nodes| Some(Value(nodes))),
-            None => Ok(None),
+        match parser.pointer(pointer, copy)?.map(|len| parser.parse(&mut copy[..len])) {
+            // SAFETY: parser and copy are borrowed as long.
+            Some(Ok(document)) => Ok(Some(Value(unsafe { document.nodes() }))),
+            Some(Err(error)) => self.check().and(Err(error)),
+            None => check_pointer(pointer).and_then(|()| self.check()).map(|()| None),
         }
+    }
+
+    fn check(&mut self) -> Result<(), Error> {
+        let Index { buffers, input, outcome } = self;
+        *outcome.get_or_insert_with(|| buffers.check(input))
     }
 }
 

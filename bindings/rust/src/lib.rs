@@ -5,7 +5,6 @@ mod compare;
 mod de;
 mod error;
 mod ffi;
-mod number;
 #[cfg(feature = "serde")]
 mod ser;
 mod value;
@@ -39,7 +38,7 @@ mod must_not_compile {}
 pub fn to_tape(input: &mut [u8]) -> Result<Tape<'_>, Error> {
     let mut buffers = Buffers::new()?;
     let document = buffers.parser.parse(input)?;
-    Ok(Tape::owned(document, buffers, Vec::new()))
+    Ok(Tape::new(document, Some((buffers, Vec::new()))))
 }
 
 /// Parses a document into a tape that owns the input and borrows nothing, and so may be returned from a function.
@@ -60,5 +59,5 @@ pub fn to_tape(input: &mut [u8]) -> Result<Tape<'_>, Error> {
 pub fn to_owned_tape(input: impl Into<Vec<u8>>) -> Result<Tape<'static>, Error> {
     let (mut buffers, mut input) = (Buffers::new()?, input.into());
     let document = buffers.parser.parse(&mut input)?;
-    Ok(Tape::owned(document, buffers, input))
+    Ok(Tape::new(document, Some((buffers, input))))
 }

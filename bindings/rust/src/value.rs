@@ -1,5 +1,5 @@
 //! Values of a tape. A node of a container is followed by the nodes of its members.
-use crate::error::numbered;
+use crate::error::{numbered, Error};
 use crate::ffi::{Buffers, Document, Node, Nodes};
 use std::fmt::{self, Formatter};
 use std::iter::FusedIterator;
@@ -49,14 +49,9 @@ pub struct Tape<'input> {
 }
 
 impl<'input> Tape<'input> {
-    /// The tape of buffers and an input that are borrowed.
-    pub(crate) fn lent(document: Document) -> Tape<'input> {
-        Tape { document, _own: None, _borrowed: PhantomData }
-    }
-
-    /// The tape of these buffers, and of this input, unless that is borrowed. What they hold is not moved with them.
-    pub(crate) fn owned(document: Document, buffers: Buffers, input: Vec<u8>) -> Tape<'input> {
-        Tape { document, _own: Some((buffers, input)), _borrowed: PhantomData }
+    /// The tape of a document whose buffers and input are its own, or borrowed. What they hold is not moved with them.
+    pub(crate) fn new(document: Document, own: Option<(Buffers, Vec<u8>)>) -> Tape<'input> {
+        Tape { document, _own: own, _borrowed: PhantomData }
     }
 
     /// The document as a value.
@@ -183,16 +178,21 @@ impl<'tape> Value<'tape> {
         self.as_array()?.nth(index)
     }
 
-    /// The value that a JSON Pointer (RFC 6901) names beneath this one.
+    /// The value in this one that a JSON Pointer (RFC 6901) names, or `None`.
     ///
     /// ```
     /// let mut input = *br#"{"sizes":[1,{"a/b":2}]}"#;
     /// let tape = simd_json_proved::to_tape(&mut input)?;
-    /// assert_eq!(tape.as_value().pointer("/sizes/1/a~1b").and_then(|value| value.as_u64()), Some(2));
+    /// assert_eq!(tape.as_value().pointer("/sizes/1/a~1b")?.and_then(|value| value.as_u64()), Some(2));
+    /// assert!(tape.as_value().pointer("/sizes/2")?.is_none() && tape.as_value().pointer("sizes").is_err());
     /// # Ok::<(), simd_json_proved::Error>(())
     /// ```
-    pub fn pointer(self, pointer: &str) -> Option<Value<'tape>> {
-        self.0.pointer(pointer).map(Value)
+    ///
+    /// # Errors
+    ///
+    /// `InvalidPointer` if the pointer is malformed.
+    pub fn pointer(self, pointer: &str) -> Result<Option<Value<'tape>>, Error> {
+        self.0.pointer(pointer).map(|found| found.map(Value))
     }
 }
 
@@ -234,6 +234,13 @@ macro_rules! members {
             // after the last member what follows the container, if anything does
             rest: Nodes<'tape, 'tape>,
             left: usize,
+        }
+
+        impl $name<'_> {
+            /// Those that are left.
+            pub fn iter(&self) -> Self {
+                *self
+            }
         }
 
         /// The members that are left.

@@ -103,12 +103,14 @@ fn judge_pointer(document: &[u8], pointer: &[u8], wanted: &str, row: &str) {
     let pointer = std::str::from_utf8(pointer).unwrap();
     let mut buffers = Buffers::default();
     let mut index = buffers.scan(document).unwrap();
-    for found in [tape.as_value().pointer(pointer), index.pointer(pointer).unwrap()] {
-        if wanted.starts_with("! ") {
-            assert!(found.is_none(), "{row}");
+    for found in [tape.as_value().pointer(pointer), index.pointer(pointer)] {
+        if wanted.starts_with("! expected a /,") || wanted.starts_with("! expected 0 or 1 after each ~,") {
+            assert_eq!(found.unwrap_err().error(), ErrorType::InvalidPointer, "{row}");
+        } else if wanted.starts_with("! ") {
+            assert!(found.unwrap().is_none(), "{row}");
         } else {
             let mut text = decoded(wanted.as_bytes());
-            assert_eq!(nodes(found.unwrap()), nodes(to_tape(&mut text).unwrap().as_value()), "{row}");
+            assert_eq!(nodes(found.unwrap().unwrap()), nodes(to_tape(&mut text).unwrap().as_value()), "{row}");
         }
     }
 }
@@ -196,14 +198,15 @@ fn numbers_are_those_of_the_header() {
     assert_eq!(numbered[1..19], errors.map(|error| (error.to_string(), error as usize)));
     assert_eq!(numbered[0], ("Ok".to_string(), 0));
     assert_eq!(numbered[19], ("TooLittleRoom".to_string(), 19));
-    assert!(header.contains("\n#define SIMD_JSON_REASON_MAX 64\n"));
+    assert_eq!(numbered[22], ("InvalidPointer".to_string(), InvalidPointer as usize));
+    assert!(header.contains("\n#define SIMD_JSON_REASON_MAX 128\n"));
     let kinds = [
         ValueType::Null, ValueType::Bool, ValueType::I64, ValueType::U64, ValueType::I128, ValueType::U128,
         ValueType::Decimal, ValueType::String, ValueType::Array, ValueType::Object,
     ];
-    assert_eq!(numbered[22..32], kinds.map(|kind| (format!("{kind:?}"), kind as usize)));
+    assert_eq!(numbered[23..33], kinds.map(|kind| (format!("{kind:?}"), kind as usize)));
     let layouts = ["Compact", "Pretty"].map(String::from);
-    assert_eq!(numbered[32..34], [(layouts[0].clone(), 0), (layouts[1].clone(), 1)]);
+    assert_eq!(numbered[33..35], [(layouts[0].clone(), 0), (layouts[1].clone(), 1)]);
 }
 
 #[test]
@@ -341,7 +344,7 @@ fn values_are_compared() {
     assert!(at(2) == -7 && at(2) == -7f32 && at(2) != u64::MAX - 6 && at(3) == 2.5 && at(3) != 2);
     assert!(at(4) == true && at(4) != false && at(4) != 1 && at(5) != false && at(5) != 0 && at(5) != "");
     assert!(at(6) == u128::MAX && at(6) != -1 && at(6) != i128::MAX && at(7) != 7);
-    assert!(tape.as_value().pointer("/7/0").unwrap() == 7usize);
+    assert!(tape.as_value().pointer("/7/0").unwrap().unwrap() == 7usize);
 }
 
 #[test]
@@ -386,16 +389,76 @@ fn buffers_by_default() {
     assert_eq!(buffers.scan(b"[\"").unwrap_err().error(), ErrorType::Syntax);
     let mut index = buffers.scan(br#"{"a":[1,"\u00e9"],"b":[1,,2]"#).unwrap();
     assert!(index.pointer("/a/1").unwrap().unwrap() == "é");
-    assert!(index.pointer("").is_err());
-    assert_eq!(index.pointer("/b").unwrap_err().index(), 3);
+    assert_eq!(["/b", ""].map(|pointer| index.pointer(pointer).unwrap_err().index()), [25, 25]);
     assert_eq!(index.pointer("/a").unwrap().unwrap().as_array().unwrap().len(), 2);
-    assert!(index.pointer("/c").unwrap().is_none() && index.pointer("a").unwrap().is_none());
     let long = format!("[[{}]]", "1,".repeat(100_000) + "2");
     assert_eq!(buffers.scan(long.as_bytes()).unwrap().pointer("/0/100000").unwrap().unwrap().as_u64(), Some(2));
     assert_eq!(Buffers::default().parse(&mut b"[3]".to_vec()).unwrap().node_count(), 2);
     assert_eq!(Buffers::default().check(&[b"[".repeat(1025), b"]".repeat(1025)].concat()).unwrap_err().index(), 1024);
     assert_eq!(check(&[b"[".repeat(1025), b"]".repeat(1025)].concat()).unwrap_err().index(), 1024);
     assert_eq!((check(b"[1]"), check(b"").unwrap_err().error()), (Ok(()), ErrorType::Eof));
+}
+
+#[test]
+fn malformed_pointers_are_errors() {
+    let text = r#"{"a":[1],"":{"~":2},"$":3}"#;
+    let tape = to_owned_tape(text).unwrap();
+    let mut buffers = Buffers::default();
+    let mut index = buffers.scan(text.as_bytes()).unwrap();
+    let malformed = [
+        ("a", 0, 'a'), ("$.a", 0, '$'), ("é/a", 0, 'é'), ("~0", 0, '~'), ("/a~", 2, '~'), ("/a/0/~2", 5, '~'),
+        ("/é/~~0", 4, '~'), ("/b/~é", 3, '~'), ("#/a", 0, '#'), (" ", 0, ' '),
+    ];
+    for (pointer, at, character) in malformed {
+        for found in [tape.as_value().pointer(pointer), index.pointer(pointer)] {
+            let error = found.unwrap_err();
+            let found = (error.error(), error.index(), error.character());
+            assert_eq!(found, (ErrorType::InvalidPointer, at, Some(character)), "{pointer}");
+        }
+    }
+    let well_formed = [("/a/0", Some(1)), ("//~0", Some(2)), ("/$", Some(3)), ("/~0~1", None), ("/b/~01", None), ("/a/-", None)];
+    for (pointer, wanted) in well_formed {
+        for found in [tape.as_value().pointer(pointer), index.pointer(pointer)] {
+            assert_eq!(found.unwrap().and_then(|value| value.as_u64()), wanted, "{pointer}");
+        }
+    }
+    let error = index.pointer("$.a").unwrap_err();
+    assert_eq!(error.to_string(), "InvalidPointer at character 0 ('$'): write `/a/0`, with `~0` for `~`");
+    assert_eq!(error.location(text.as_bytes()).unwrap().to_string(), "0:0: ");
+}
+
+// What is absent is none. A value that is wrong, or none of an input that is, has the error of a parse of the input.
+#[test]
+fn absent_is_not_wrong() {
+    let long = format!(r#"{{"id":1{}}}"#, "0".repeat(40));
+    let rows = [
+        (long.as_str(), "/id", true), (&long, "/x", true), (&long, "", true), (r#"{"a":tru,"b":[2]}"#, "/a", true),
+        (r#"{"a":tru,"b":[2]}"#, "/b/1", true), (r#"{"a":tru,"b":[2]}"#, "/b/0", false), (r#"[1,"\x",2]"#, "/1", true),
+        (r#"[1,"\x",2]"#, "/2", false), ("[1 2]", "/1", true), ("[1,[2,]]", "/1", true), ("[1", "/0", false), ("[1", "/3", true),
+        (r#"{"a" 1}"#, "/a", true), ("01", "", true), ("[1]x", "/0", false), ("[1]x", "/1", true),
+        (r#"{"a":{"b":null}}"#, "/a/c", false), (r#"{"a":{"b":null}}"#, "/a/b/c", false), ("1", "/0", false),
+        ("[[[[1]]],[2]]", "/1/0", false), ("[[[[1]]],[2]]", "/2", true), ("[[[[1]]],[2]]", "/0", false), ("[[[[1]]],[2]]", "", true),
+    ];
+    let mut buffers = Buffers::with_max_depth(3).unwrap();
+    for (text, pointer, is_wrong) in rows {
+        let parsed = buffers.parse(&mut text.as_bytes().to_vec()).map(drop);
+        let mut index = buffers.scan(text.as_bytes()).unwrap();
+        for _ in 0..2 {
+            assert_eq!(index.pointer(pointer).map(drop).err(), parsed.err().filter(|_| is_wrong), "{text} {pointer}");
+        }
+        assert!(!is_wrong || parsed.is_err(), "{text}");
+    }
+}
+
+#[test]
+fn members_are_iterated() {
+    let tape = to_owned_tape(r#"{"a":[1,2,3],"b":null}"#).unwrap();
+    let object = tape.as_value().as_object().unwrap();
+    assert_eq!(object.iter().map(|(key, _)| key).collect::<String>(), "ab");
+    let mut array = object.iter().next().unwrap().1.as_array().unwrap();
+    assert_eq!(array.iter().filter_map(|value| value.as_u64()).sum::<u64>(), 6);
+    array.next();
+    assert_eq!((array.iter().len(), array.iter().count(), array.len()), (2, 2, 2));
 }
 
 #[test]

@@ -98,6 +98,14 @@ struct Tree {
     more: Vec<Tree>,
 }
 
+/// What takes more than 5 kB of stack for each that is open, without optimization.
+#[derive(Debug, Deserialize)]
+#[allow(dead_code)]
+struct Large {
+    numbers: [u64; 32],
+    next: Option<Box<Large>>,
+}
+
 fn read<T: DeserializeOwned>(text: &str) -> T {
     from_str(text).unwrap_or_else(|error| panic!("{text}: {error}"))
 }
@@ -176,7 +184,7 @@ fn strings_are_borrowed() {
     }
     assert_eq!(ends, [(2, "\"".to_string(), 2), (0, "b".to_string(), 0)]);
     let tape = to_owned_tape(r#"{"a":[{"level":"x","text":"y","bytes":"z"}]}"#).unwrap();
-    let line = Line::deserialize(tape.as_value().pointer("/a/0").unwrap()).unwrap();
+    let line = Line::deserialize(tape.as_value().pointer("/a/0").unwrap().unwrap()).unwrap();
     assert_eq!((line.level, line.bytes), ("x", &b"z"[..]));
 }
 
@@ -248,15 +256,17 @@ fn errors_have_places() {
     assert_eq!((error.path(), error.line(), error.column()), ("/a~1b/~0é/2", 3, 3));
     assert_eq!((error.location().unwrap().byte(), error.parse_error()), (35, None));
     // A field that is missing is its object's, one that is not known its key's.
-    assert_eq!(words::<Vec<Denying>>("[\n{}]"), "/0: missing field `id` at line 2 column 1");
+    assert_eq!(words::<Vec<Denying>>("[\n{}]"), "/0: missing field `id` at line 2 column 2");
     assert_eq!(words::<Vec<Denying>>(r#"[{"id":1,"name":null,"nam":[]}]"#), "/0: unknown field `nam`, expected `id` or `name` at line 1 column 22");
-    assert_eq!(words::<Denying>(r#"{"id":1,"id":2}"#), "duplicate field `id` at line 1 column 1");
+    assert_eq!(words::<Denying>(r#"{"id":1,"id":2}"#), "duplicate field `id` at line 1 column 9");
     assert_eq!(words::<Denying>(r#"{"name":"é","id":true}"#), "/id: invalid type: boolean `true`, expected u8 at line 1 column 18");
+    assert_eq!(words::<Vec<u8>>("[1,null]"), "/1: invalid type: null, expected u8 at line 1 column 4");
     assert_eq!(words::<(u8, u8)>("[1,2,3]"), "invalid length 3, expected no more than 2 at line 1 column 1");
     assert_eq!(words::<(u8, u8)>("[1]"), "invalid length 1, expected a tuple of size 2 at line 1 column 1");
     assert_eq!(words::<Vec<Shape>>(r#"[{"Dot":null,"Circle":1}]"#), "/0: invalid value: map, expected an object with one key at line 1 column 2");
     assert_eq!(words::<Vec<Shape>>(r#"[ 5 ]"#), "/0: invalid type: integer `5`, expected string or map at line 1 column 3");
     assert_eq!(words::<Vec<Shape>>(r#"[{"Line":[1,"2"]}]"#), "/0/Line/1: invalid type: string \"2\", expected i32 at line 1 column 13");
+    assert_eq!(words::<Tagged>(r#"{"type":0,"x":1}"#), "/type: invalid type: integer `0`, expected variant identifier at line 1 column 9");
     assert_eq!(words::<Vec<Shape>>(r#"[[],"dot"]"#), "/0: invalid type: sequence, expected string or map at line 1 column 2");
     assert_eq!(words::<BTreeMap<u8, u8>>(r#"{"+1":1}"#), "invalid type: string \"+1\", expected u8 at line 1 column 2");
     assert_eq!(words::<Vec<BTreeMap<Refused, u8>>>(r#"[{"a":1}]"#), "/0: invalid type: byte array, expected other bytes at line 1 column 3");
@@ -277,9 +287,13 @@ fn values_are_found_and_read() {
     let mut index = buffers.scan(br#"{"a":[{"id":1,"name":"b"}],"wrong":[1,,2]}"#).unwrap();
     assert_eq!(index.read::<Denying>("/a/0").unwrap(), Some(Denying { id: 1, name: Some("b".into()) }));
     assert_eq!(index.read::<&str>("/a/0/name").unwrap(), Some("b"));
-    assert_eq!(index.read::<u8>("/a/1").unwrap(), None);
     assert_eq!(index.read::<u8>("/a").unwrap_err().to_string(), "invalid type: sequence, expected u8");
-    assert_eq!(index.read::<u8>("/wrong").unwrap_err().parse_error().unwrap().index(), 3);
+    for pointer in ["/wrong", "/a/1"] {
+        assert_eq!(index.read::<u8>(pointer).unwrap_err().to_string(), "InternalError at character 38 (',')");
+    }
+    let wanted = "InvalidPointer at character 0 ('a'): write `/a/0`, with `~0` for `~`";
+    assert_eq!(index.read::<u8>("a").unwrap_err().to_string(), wanted);
+    assert_eq!(buffers.scan(b"[1]").unwrap().read::<u8>("/1").unwrap(), None);
 }
 
 #[test]
@@ -291,6 +305,7 @@ fn both_errors_are_returned_as_one() {
         Ok(if index.pointer("/0")?.is_some() { index.read("/1")? } else { None })
     }
     assert_eq!(second(br#"[0,"a"]"#).unwrap(), Some("a".into()));
+    assert_eq!(second(b"[0]").unwrap(), None);
     let error = second(b"[0,[[]]]").unwrap_err();
     assert_eq!(error.to_string(), "DepthLimitExceeded at character 4 ('[')");
     assert_eq!((error.parse_error().unwrap().index(), error.location()), (4, None));
@@ -315,14 +330,25 @@ fn values_are_written() {
 #[test]
 fn depth_ends_no_program() {
     // As deep as is allowed by default, on the stack that a thread has by default, in a build without optimization.
-    let deep = "{\"v\":1,\"more\":[".repeat(512) + &"]}".repeat(512);
-    assert!(from_str::<Tree>(&deep).is_ok());
-    assert!(from_str::<serde_json::Value>(&deep).is_ok());
-    assert!(from_str::<Untagged>(&("[".repeat(1024) + &"]".repeat(1024))).is_ok());
-    for deeper in ["[".repeat(1_000_000), "[".repeat(1025) + &"]".repeat(1025)] {
-        let error = from_str::<Untagged>(&deeper).unwrap_err();
-        assert_eq!(error.parse_error().unwrap().error(), ErrorType::DepthLimitExceeded);
+    fn judge<T: DeserializeOwned + Debug>(open: &str, innermost: &str, close: &str) {
+        let each = open.matches(['[', '{']).count() - open.matches(']').count();
+        let text = |depth: usize| open.repeat(depth / each) + innermost + &close.repeat(depth / each);
+        assert!(from_str::<T>(&text(126)).is_ok() && from_slice_mut::<T>(&mut text(126).into_bytes()).is_ok());
+        for deeper in [text(130), text(1024), text(100_000)] {
+            let read = [from_str::<T>(&deeper), from_slice_mut::<T>(&mut deeper.into_bytes())];
+            for error in read.map(|read| read.unwrap_err().parse_error().unwrap()) {
+                assert_eq!(error.error(), ErrorType::DepthLimitExceeded);
+            }
+        }
     }
+    judge::<Tree>("{\"v\":1,\"more\":[", "", "]}");
+    judge::<Tree>("{\"v\":1,\"next\":", "null", "}");
+    judge::<serde_json::Value>("{\"a\":", "1", "}");
+    judge::<Untagged>("[", "", "]");
+    judge::<Large>("{\"numbers\":[0,0,0,0,0,0,0,0,0,0,0,0,0,0,0,0,0,0,0,0,0,0,0,0,0,0,0,0,0,0,0,0],\"next\":", "null", "}");
+    // More where it is asked for.
+    let deep = "[".repeat(1024) + &"]".repeat(1024);
+    assert!(from_slice_with::<Untagged>(&mut Buffers::default(), deep.as_bytes()).is_ok());
 }
 
 // xorshift (G. Marsaglia, "Xorshift RNGs", 2003).
@@ -386,6 +412,11 @@ fn mutant(random: &mut Random, text: &[u8]) -> Vec<u8> {
     out
 }
 
+fn byte_of(error: &serde_json::Error, text: &[u8]) -> usize {
+    let before = text.split_inclusive(|byte| *byte == b'\n').take(error.line() - 1).map(<[u8]>::len).sum::<usize>();
+    before + error.column() - 1
+}
+
 // What both make of a text must be the same, but where a number is beyond serde_json, which rejects it or takes it for a float.
 // What serde_json passes over it does not judge, so a document is what it reads as a value.
 fn judge<T: DeserializeOwned + PartialEq + Debug>(text: &[u8], read: &mut [usize; 2]) {
@@ -412,6 +443,18 @@ fn judge<T: DeserializeOwned + PartialEq + Debug>(text: &[u8], read: &mut [usize
     read[usize::from(ours.is_ok())] += 1;
     match (ours, theirs) {
         (Ok(ours), Ok(theirs)) => assert!(ours == theirs || is_beyond(), "{shown}: {ours:?}, {theirs:?}"),
+        (Err(ours), Err(theirs)) if theirs.line() > 0 && !is_beyond() => {
+            // Theirs is the last byte that was read, after what `serde` buffers with what comes before the next value.
+            let (ours_at, theirs_at) = (ours.location().unwrap().byte(), byte_of(&theirs, text));
+            if ours.reason().starts_with("missing field") {
+                let is_between = text[ours_at..theirs_at].iter().skip(1).all(|byte| b" \n,]".contains(byte));
+                assert!(text[ours_at] == b'}' && is_between, "{shown}: {ours}, {theirs}");
+            }
+            // Of what is buffered it is the object's.
+            if ours.reason().starts_with("duplicate field") && text[ours_at] != b'{' {
+                assert!(serde_json::from_slice::<String>(&text[ours_at..=theirs_at]).is_ok(), "{shown}: {ours}, {theirs}");
+            }
+        }
         (Err(_), Err(_)) => {}
         (ours, theirs) => assert!(is_beyond(), "{shown}: {ours:?}, {theirs:?}"),
     }

@@ -1,7 +1,8 @@
 //! Why an input could not be read as a type, and where.
-use crate::error::{Error, Location};
-use crate::ffi::{located, node_position, Nodes};
+use crate::error::{Error, ErrorType, Location};
+use crate::ffi::{located, node_position, Buffers, Nodes, Position};
 use crate::value::ValueType;
+use serde::de::{Expected, Unexpected};
 use std::fmt;
 
 /// Why an input could not be read as a type: it is no document, or the document does not fit.
@@ -9,19 +10,20 @@ use std::fmt;
 /// It prints as `/users/0/id: invalid type: string "x", expected u64 at line 2 column 9`.
 pub struct ReadError(Box<Inner>);
 
-#[derive(Debug)]
+#[derive(Debug, Default)]
 struct Inner {
     // of an input that is no document
     parse: Option<Error>,
     // how many nodes there were from the one on that does not fit
     left: Option<usize>,
+    is_at_end: bool,
     path: String,
     location: Option<Location>,
     reason: String,
 }
 
 impl ReadError {
-    /// The first error of the input, if it is no document.
+    /// The first error of the input, if it is no document; also that of a malformed JSON Pointer.
     pub fn parse_error(&self) -> Option<Error> {
         self.0.parse
     }
@@ -38,8 +40,8 @@ impl ReadError {
         &self.0.reason
     }
 
-    /// Where it is in the input. `None` if a value of a tape was read, the input was overwritten, or an allocation
-    /// failed.
+    /// Where it is in the input: a field that is missing at the end of its object, a key that is there twice at the
+    /// second. `None` if a value of a tape was read, the input was overwritten, or an allocation failed.
     pub fn location(&self) -> Option<&Location> {
         self.0.location.as_ref()
     }
@@ -55,7 +57,7 @@ impl ReadError {
     }
 
     fn new(reason: String) -> ReadError {
-        ReadError(Box::new(Inner { parse: None, left: None, path: String::new(), location: None, reason }))
+        ReadError(Box::new(Inner { reason, ..Inner::default() }))
     }
 
     #[cold]
@@ -88,9 +90,23 @@ impl ReadError {
     pub(super) fn in_input(mut self, value: Nodes<'_, '_>, input: &[u8]) -> ReadError {
         let node = value.nodes.len() - self.0.left.unwrap_or(value.nodes.len());
         let reason = self.0.reason.clone();
-        self.0.location = node_position(input, node).map(|position| Location { position, reason });
+        let start = node_position(input, node);
+        let position = if self.0.is_at_end { start.and_then(|start| end_of(input, start.byte)) } else { start };
+        self.0.location = position.map(|position| Location { position, reason });
         self.beneath(value)
     }
+}
+
+// The bracket that closes the object at an index of a document.
+fn end_of(input: &[u8], start: usize) -> Option<Position> {
+    let index = match Buffers::with_max_depth(usize::MAX).ok()?.check(&input[start..]) {
+        // Text after a document is an error at the bracket that closes it.
+        Err(error) => start + error.index,
+        Ok(()) => input.iter().rposition(|byte| *byte == b'}')?,
+    };
+    // The position of an error of this kind is that of its index.
+    let error = Error { kind: ErrorType::ExpectedObjectKey, index, character: Some('}') };
+    located(input, &error).ok().map(|location| location.position)
 }
 
 // The JSON Pointer to a node beneath a value; of a key that of its object.
@@ -130,6 +146,22 @@ impl serde::de::Error for ReadError {
     #[cold]
     fn custom<T: fmt::Display>(words: T) -> ReadError {
         ReadError::new(words.to_string())
+    }
+
+    // As serde_json: `null`, which serde calls a unit value.
+    #[cold]
+    fn invalid_type(found: Unexpected<'_>, expected: &dyn Expected) -> ReadError {
+        match found {
+            Unexpected::Unit => ReadError::new(format!("invalid type: null, expected {expected}")),
+            found => ReadError::new(format!("invalid type: {found}, expected {expected}")),
+        }
+    }
+
+    #[cold]
+    fn missing_field(field: &'static str) -> ReadError {
+        let mut error = ReadError::new(format!("missing field `{field}`"));
+        error.0.is_at_end = true;
+        error
     }
 }
 

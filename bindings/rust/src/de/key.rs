@@ -4,11 +4,7 @@ use serde::de::value::BorrowedStrDeserializer;
 use serde::de::{Deserializer, Visitor};
 use std::str::FromStr;
 
-pub(super) struct Key<'de> {
-    pub(super) text: &'de str,
-    // how many nodes there are from it on
-    pub(super) left: usize,
-}
+pub(super) struct Key<'de>(pub(super) &'de str);
 
 // As a document writes it, so neither `+1` nor `01`.
 fn integer<T: FromStr>(text: &str) -> Option<T> {
@@ -20,8 +16,8 @@ fn integer<T: FromStr>(text: &str) -> Option<T> {
 macro_rules! integers {
     ($($method:ident $visit:ident)*) => {$(
         fn $method<V: Visitor<'de>>(self, visitor: V) -> Result<V::Value, ReadError> {
-            match integer(self.text) {
-                Some(number) => visitor.$visit(number).map_err(|error: ReadError| error.at(self.left)),
+            match integer(self.0) {
+                Some(number) => visitor.$visit(number),
                 None => self.deserialize_any(visitor),
             }
         }
@@ -33,7 +29,7 @@ impl<'de> Deserializer<'de> for Key<'de> {
 
     #[inline]
     fn deserialize_any<V: Visitor<'de>>(self, visitor: V) -> Result<V::Value, ReadError> {
-        visitor.visit_borrowed_str(self.text).map_err(|error: ReadError| error.at(self.left))
+        visitor.visit_borrowed_str(self.0)
     }
 
     integers! {
@@ -43,8 +39,8 @@ impl<'de> Deserializer<'de> for Key<'de> {
     }
 
     fn deserialize_bool<V: Visitor<'de>>(self, visitor: V) -> Result<V::Value, ReadError> {
-        match self.text.parse() {
-            Ok(value) => visitor.visit_bool(value).map_err(|error: ReadError| error.at(self.left)),
+        match self.0.parse() {
+            Ok(value) => visitor.visit_bool(value),
             Err(_) => self.deserialize_any(visitor),
         }
     }
@@ -53,11 +49,7 @@ impl<'de> Deserializer<'de> for Key<'de> {
         visitor.visit_some(self)
     }
 
-    fn deserialize_newtype_struct<V: Visitor<'de>>(
-        self,
-        _name: &'static str,
-        visitor: V,
-    ) -> Result<V::Value, ReadError> {
+    fn deserialize_newtype_struct<V: Visitor<'de>>(self, _: &'static str, visitor: V) -> Result<V::Value, ReadError> {
         visitor.visit_newtype_struct(self)
     }
 
@@ -67,12 +59,11 @@ impl<'de> Deserializer<'de> for Key<'de> {
         variants: &'static [&'static str],
         visitor: V,
     ) -> Result<V::Value, ReadError> {
-        let text = BorrowedStrDeserializer::new(self.text);
-        text.deserialize_enum(name, variants, visitor).map_err(|error: ReadError| error.at(self.left))
+        BorrowedStrDeserializer::new(self.0).deserialize_enum(name, variants, visitor)
     }
 
     fn deserialize_bytes<V: Visitor<'de>>(self, visitor: V) -> Result<V::Value, ReadError> {
-        visitor.visit_borrowed_bytes(self.text.as_bytes()).map_err(|error: ReadError| error.at(self.left))
+        visitor.visit_borrowed_bytes(self.0.as_bytes())
     }
 
     fn deserialize_byte_buf<V: Visitor<'de>>(self, visitor: V) -> Result<V::Value, ReadError> {

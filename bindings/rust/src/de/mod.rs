@@ -1,4 +1,4 @@
-//! Types that derive `serde::Deserialize`, read from the nodes that a parse lends.
+//! Types that derive `serde::Deserialize`, read from the nodes of a parse.
 mod error;
 mod key;
 mod reader;
@@ -9,7 +9,9 @@ use crate::ffi::{Buffers, Index};
 use crate::value::Value;
 use serde::de::{Deserialize, DeserializeOwned, Deserializer, Visitor};
 
-/// Reads a document as a type, which may borrow nothing. The input is left as it is, since a copy is parsed.
+/// Reads a document as a type that borrows nothing; [`from_slice_mut`] reads one with a `&str`. The input is left as it
+/// is, since a copy is parsed. At most 128 containers may be open: a type that nests as deep as its input takes stack
+/// for each. [`from_slice_with`] has the limit of its [`Buffers`].
 ///
 /// ```
 /// #[derive(serde::Deserialize)]
@@ -29,10 +31,10 @@ use serde::de::{Deserialize, DeserializeOwned, Deserializer, Visitor};
 ///
 /// The first error of the input; or how the document does not fit the type, with the path to the value.
 pub fn from_slice<T: DeserializeOwned>(input: &[u8]) -> Result<T, ReadError> {
-    from_slice_with(&mut Buffers::default(), input)
+    from_slice_with(&mut Buffers::with_max_depth(MAX_DEPTH)?, input)
 }
 
-/// [`from_slice`] of a text.
+/// [`from_slice`] of a text: for a type that borrows nothing. [`from_slice_mut`] reads one with a `&str`.
 ///
 /// # Errors
 ///
@@ -74,7 +76,7 @@ pub fn from_slice_with<'b, T: Deserialize<'b>>(buffers: &'b mut Buffers, input: 
 }
 
 /// Reads a document as a type, without a copy. The input is overwritten, and the type may borrow strings from it, each
-/// with its escapes decoded.
+/// with its escapes decoded. At most 128 containers may be open.
 ///
 /// ```
 /// #[derive(serde::Deserialize)]
@@ -95,7 +97,7 @@ pub fn from_slice_with<'b, T: Deserialize<'b>>(buffers: &'b mut Buffers, input: 
 ///
 /// As those of [`from_slice`], but without a line and a column, since the text is lost.
 pub fn from_slice_mut<'de, T: Deserialize<'de>>(input: &'de mut [u8]) -> Result<T, ReadError> {
-    from_slice_mut_with(&mut Buffers::default(), input)
+    from_slice_mut_with(&mut Buffers::with_max_depth(MAX_DEPTH)?, input)
 }
 
 /// [`from_slice_mut`] in memory that is kept for the next, from which nothing is borrowed.
@@ -132,6 +134,9 @@ impl Index<'_> {
         self.pointer(pointer)?.map(T::deserialize).transpose()
     }
 }
+
+// As that of `serde_json`, since without optimization usual types take more than 4 kB of stack for each.
+const MAX_DEPTH: usize = 128;
 
 macro_rules! by_nodes {
     ($($method:ident($($arg:ident: $type:ty),*);)*) => {$(

@@ -6,8 +6,8 @@ use crate::ffi::{Node, Nodes};
 use crate::value::ValueType;
 use serde::de::value::BorrowedStrDeserializer;
 use serde::de::{
-    Deserialize, DeserializeSeed, Deserializer, EnumAccess, Error, MapAccess, SeqAccess, Unexpected, VariantAccess,
-    Visitor,
+    Deserialize, DeserializeSeed, Deserializer, EnumAccess, Error, Expected, MapAccess, SeqAccess, Unexpected,
+    VariantAccess, Visitor,
 };
 use std::convert::Infallible;
 use std::fmt;
@@ -33,24 +33,21 @@ impl<'n, 'de> Nodes<'n, 'de> {
     }
 
     fn key(&mut self) -> Key<'de> {
-        let left = self.nodes.len();
-        Key { text: self.text(self.take()), left }
+        Key(self.text(self.take()))
     }
 
-    // Takes the first node, of which `read` makes a value. An error is at that node, unless it is at one in it.
+    // What a type reads from the first node on. An error is at that node, unless it is at one in it.
     #[inline]
-    fn placed<T>(&mut self, read: impl FnOnce(&mut Self, &'n Node) -> Result<T, ReadError>) -> Result<T, ReadError> {
+    fn placed<T>(&mut self, read: impl FnOnce(&mut Self) -> Result<T, ReadError>) -> Result<T, ReadError> {
         let left = self.nodes.len();
-        let node = self.take();
-        read(self, node).map_err(|error| error.at(left))
+        read(self).map_err(|error| error.at(left))
     }
 
     // Takes the first value, which is of a kind.
     #[inline(always)]
     fn visit<V: Visitor<'de>>(&mut self, kind: ValueType, visitor: V) -> Result<V::Value, ReadError> {
-        let left = self.nodes.len();
         let node = self.take();
-        let value = match kind {
+        match kind {
             ValueType::Null => visitor.visit_unit(),
             ValueType::Bool => visitor.visit_bool(node.value != 0),
             ValueType::I64 => visitor.visit_i64(node.value as i64),
@@ -63,9 +60,8 @@ impl<'n, 'de> Nodes<'n, 'de> {
             ValueType::Decimal => visitor.visit_f64(self.double(node)),
             ValueType::String => visitor.visit_borrowed_str(self.text(node)),
             ValueType::Array => self.within(node, |members| visitor.visit_seq(members)),
-            ValueType::Object => self.within(node, |members| visitor.visit_map(members)),
-        };
-        value.map_err(|error| error.at(left))
+            ValueType::Object => self.within(node, |members| members.visit(visitor)),
+        }
     }
 
     // Takes the members of a container. Any that `read` leaves are passed over, and are an error if it returns none.
@@ -81,27 +77,22 @@ impl<'n, 'de> Nodes<'n, 'de> {
         self.nodes = after;
         match left {
             0 => value,
-            _ => value.and_then(|_| Err(ReadError::invalid_length(node.len as usize, &Fewer(node.len - left)))),
+            _ => value.and_then(|_| {
+                let fewer = format!("no more than {}", node.len - left);
+                Err(ReadError::invalid_length(node.len as usize, &fewer.as_str()))
+            }),
         }
     }
 }
 
-struct Fewer(u32);
+/// Rejects any value, since another is expected.
+struct Rejecting<E>(E);
 
-impl serde::de::Expected for Fewer {
-    fn fmt(&self, f: &mut fmt::Formatter<'_>) -> fmt::Result {
-        write!(f, "no more than {}", self.0)
-    }
-}
-
-/// Expects a variant, and rejects any value.
-struct NoVariant;
-
-impl Visitor<'_> for NoVariant {
+impl<E: Expected> Visitor<'_> for Rejecting<E> {
     type Value = Infallible;
 
     fn expecting(&self, f: &mut fmt::Formatter<'_>) -> fmt::Result {
-        f.write_str("string or map")
+        self.0.fmt(f)
     }
 }
 
@@ -134,22 +125,20 @@ impl<'de> Deserializer<'de> for &mut Nodes<'_, 'de> {
             deserialize_i8() deserialize_i16() deserialize_i32() deserialize_i64() deserialize_i128()
             deserialize_u8() deserialize_u16() deserialize_u32() deserialize_u64() deserialize_u128();
         ValueType::String => |nodes, visitor| nodes.visit(ValueType::String, visitor),
-            deserialize_char() deserialize_str() deserialize_string() deserialize_identifier();
+            deserialize_char() deserialize_str() deserialize_string();
         ValueType::Array => |nodes, visitor| nodes.visit(ValueType::Array, visitor),
             deserialize_seq() deserialize_tuple(_len: usize);
         ValueType::Object => |nodes, visitor| nodes.visit(ValueType::Object, visitor),
             deserialize_map() deserialize_struct(_name: &'static str, _fields: &'static [&'static str]);
         ValueType::Decimal | ValueType::I128 | ValueType::U128 =>
-            |nodes, visitor| nodes.placed(|nodes, node| visitor.visit_f64(nodes.double(node))),
+            |nodes, visitor| visitor.visit_f64(nodes.double(nodes.take())),
             deserialize_f64();
         // By one rounding, not by way of an `f64`.
         ValueType::Decimal | ValueType::I128 | ValueType::U128 =>
-            |nodes, visitor| nodes.placed(|nodes, node| {
-                visitor.visit_f32(nodes.text(node).parse().unwrap_or_default())
-            }),
+            |nodes, visitor| visitor.visit_f32(nodes.text(nodes.take()).parse().unwrap_or_default()),
             deserialize_f32();
         ValueType::String =>
-            |nodes, visitor| nodes.placed(|nodes, node| visitor.visit_borrowed_bytes(nodes.text(node).as_bytes())),
+            |nodes, visitor| visitor.visit_borrowed_bytes(nodes.text(nodes.take()).as_bytes()),
             deserialize_bytes() deserialize_byte_buf();
     }
 
@@ -163,11 +152,7 @@ impl<'de> Deserializer<'de> for &mut Nodes<'_, 'de> {
     }
 
     #[inline]
-    fn deserialize_newtype_struct<V: Visitor<'de>>(
-        self,
-        _name: &'static str,
-        visitor: V,
-    ) -> Result<V::Value, ReadError> {
+    fn deserialize_newtype_struct<V: Visitor<'de>>(self, _: &'static str, visitor: V) -> Result<V::Value, ReadError> {
         visitor.visit_newtype_struct(self)
     }
 
@@ -180,18 +165,25 @@ impl<'de> Deserializer<'de> for &mut Nodes<'_, 'de> {
         visitor: V,
     ) -> Result<V::Value, ReadError> {
         if !matches!(self.kind(), ValueType::String | ValueType::Object) {
-            return self.deserialize_any(NoVariant).map(|never| match never {});
+            return self.deserialize_any(Rejecting("string or map")).map(|never| match never {});
         }
-        self.placed(|nodes, node| {
-            let after = nodes.from(node.count() - 1);
-            let value = match (node.kind(), node.len) {
-                (ValueType::String, _) => visitor.visit_enum(BorrowedStrDeserializer::new(nodes.text(node))),
-                (_, 1) => visitor.visit_enum(&mut *nodes),
-                _ => Err(ReadError::invalid_value(Unexpected::Map, &"an object with one key")),
-            };
-            *nodes = after;
-            value
-        })
+        let node = self.take();
+        let after = self.from(node.count() - 1);
+        let value = match (node.kind(), node.len) {
+            (ValueType::String, _) => visitor.visit_enum(BorrowedStrDeserializer::new(self.text(node))),
+            (_, 1) => visitor.visit_enum(&mut *self),
+            _ => Err(ReadError::invalid_value(Unexpected::Map, &"an object with one key")),
+        };
+        *self = after;
+        value
+    }
+
+    // A tag, which is a string: a number is not taken for the index of a variant.
+    fn deserialize_identifier<V: Visitor<'de>>(self, visitor: V) -> Result<V::Value, ReadError> {
+        match self.kind() {
+            ValueType::String => self.deserialize_str(visitor),
+            _ => self.deserialize_any(Rejecting(visitor)).map(|never| match never {}),
+        }
     }
 
     #[inline]
@@ -211,7 +203,7 @@ struct Members<'r, 'n, 'de> {
     value: usize,
 }
 
-impl Members<'_, '_, '_> {
+impl<'de> Members<'_, '_, 'de> {
     // Whether there is a member more. A value that was not read is passed over.
     #[inline]
     fn next(&mut self) -> bool {
@@ -235,6 +227,13 @@ impl Members<'_, '_, '_> {
     fn pass_unread(&mut self) {
         self.nodes.pass();
     }
+
+    // An error of the visitor itself is at a key, if that is read and its value is not.
+    #[inline]
+    fn visit<V: Visitor<'de>>(&mut self, visitor: V) -> Result<V::Value, ReadError> {
+        let value = visitor.visit_map(&mut *self);
+        value.map_err(|error| if self.is_unread() { error.at(self.value + 1) } else { error })
+    }
 }
 
 impl<'de> SeqAccess<'de> for Members<'_, '_, 'de> {
@@ -246,7 +245,7 @@ impl<'de> SeqAccess<'de> for Members<'_, '_, 'de> {
             return Ok(None);
         }
         self.value = self.nodes.nodes.len();
-        seed.deserialize(&mut *self.nodes).map(Some)
+        self.nodes.placed(|nodes| seed.deserialize(nodes)).map(Some)
     }
 
     fn size_hint(&self) -> Option<usize> {
@@ -262,9 +261,8 @@ impl<'de> MapAccess<'de> for Members<'_, '_, 'de> {
         if !self.next() {
             return Ok(None);
         }
-        let key = self.nodes.key();
-        self.value = self.nodes.nodes.len();
-        seed.deserialize(key).map(Some)
+        self.value = self.nodes.nodes.len() - 1;
+        self.nodes.placed(|nodes| seed.deserialize(nodes.key())).map(Some)
     }
 
     #[inline]
@@ -272,7 +270,7 @@ impl<'de> MapAccess<'de> for Members<'_, '_, 'de> {
         if !self.is_unread() {
             return Err(ReadError::custom("a value is read without its key"));
         }
-        seed.deserialize(&mut *self.nodes)
+        self.nodes.placed(|nodes| seed.deserialize(nodes))
     }
 
     fn size_hint(&self) -> Option<usize> {
@@ -285,7 +283,7 @@ impl<'de> EnumAccess<'de> for &mut Nodes<'_, 'de> {
     type Variant = Self;
 
     fn variant_seed<V: DeserializeSeed<'de>>(self, seed: V) -> Result<(V::Value, Self), ReadError> {
-        let variant = seed.deserialize(self.key())?;
+        let variant = self.placed(|nodes| seed.deserialize(nodes.key()))?;
         Ok((variant, self))
     }
 }
@@ -294,22 +292,18 @@ impl<'de> VariantAccess<'de> for &mut Nodes<'_, 'de> {
     type Error = ReadError;
 
     fn unit_variant(self) -> Result<(), ReadError> {
-        Deserialize::deserialize(self)
+        self.placed(|content| Deserialize::deserialize(content))
     }
 
     fn newtype_variant_seed<T: DeserializeSeed<'de>>(self, seed: T) -> Result<T::Value, ReadError> {
-        seed.deserialize(self)
+        self.placed(|content| seed.deserialize(content))
     }
 
     fn tuple_variant<V: Visitor<'de>>(self, _len: usize, visitor: V) -> Result<V::Value, ReadError> {
-        self.deserialize_any(visitor)
+        self.placed(|content| content.deserialize_any(visitor))
     }
 
-    fn struct_variant<V: Visitor<'de>>(
-        self,
-        _fields: &'static [&'static str],
-        visitor: V,
-    ) -> Result<V::Value, ReadError> {
-        self.deserialize_any(visitor)
+    fn struct_variant<V: Visitor<'de>>(self, _: &'static [&'static str], visitor: V) -> Result<V::Value, ReadError> {
+        self.placed(|content| content.deserialize_any(visitor))
     }
 }
