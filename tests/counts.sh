@@ -1,7 +1,7 @@
 #!/bin/sh
 # The lines of definitions that docs/DESIGN.md counts are those of the files, no file of simd_json_parts is left out, and the sums are
-# right. Sources, definitions, proofs (without tests, benchmarks and examples), wrappers and documents are no longer than is said
-# below. Silent where all is well, else a line for each count that is wrong, and status 1.
+# right. Sources, definitions, proofs (without tests, benchmarks and examples), wrappers and documents (each `*.md` that git tracks)
+# are no longer than is said below. Silent where all is well, else a line for each count that is wrong, and status 1.
 set -eu
 cd "$(dirname "$0")/.."
 
@@ -31,13 +31,13 @@ wrong=$(
         cat $(find crates -path "crates/*/$1/*" -name "$2" -not -path '*/out/*' |
             grep -vE '^crates/([a-z_]*_(tests|bench|rows)|typed_log|log_fields)/') | wc -l
     }
-    most 'lines of sources' "$(lines src '*.rt')" 30400
-    most 'lines of definitions' "$(lines specs '*.antt')" 9900
-    most 'lines of proofs' "$(lines proofs '*.antt')" 53600
+    most 'lines of sources' "$(lines src '*.rt')" 30100
+    most 'lines of definitions' "$(lines specs '*.antt')" 10000
+    most 'lines of proofs' "$(lines proofs '*.antt')" 52800
     most 'lines of wrappers, which nothing proves' \
-        "$(cat python/native.c include/simd_json.h include/simd_json.hpp bindings/rust/src/*.rs bindings/rust/src/*/*.rs | wc -l)" 3950
-    most 'words of documents, without code' "$(cat README.md CHANGELOG.md CONTRIBUTING.md SECURITY.md docs/*.md bench/HISTORY.md \
-        examples/README.md | awk '/^ *```/ { code = !code; next } !code' | wc -w)" 10500
+        "$(cat python/native.c include/simd_json.h include/simd_json.hpp bindings/rust/src/*.rs bindings/rust/src/*/*.rs | wc -l)" 3910
+    most 'words of documents, without code' \
+        "$(git ls-files '*.md' | xargs cat | awk '/^ *```/ { code = !code; next } !code' | wc -w)" 10500
 )
 if [ -n "$wrong" ]; then
     printf '%s\n' "$wrong" >&2
