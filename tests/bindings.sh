@@ -31,7 +31,7 @@ by_wrapper() {
 
 # rejects CASE NAMED: that part of tests/c/must_not_compile.cpp must not compile; the first error names why.
 rejects() {
-    if LC_ALL=C c++ -std=c++17 -fsyntax-only -Iinclude "-DCASE=$1" tests/c/must_not_compile.cpp \
+    if LC_ALL=C c++ -std=gnu++17 -fsyntax-only -Iinclude "-DCASE=$1" tests/c/must_not_compile.cpp \
         2> "$room/log"; then
         echo "tests/c/must_not_compile.cpp compiles with -DCASE=$1"
         exit 1
@@ -79,8 +79,19 @@ if command -v c++ > /dev/null; then
     rejects 8 'operator\[\]'
     rejects 9 'deleted.*pointer'
     rejects 10 'operator=='
-    for case in 16 17; do rejects $case 'call to.*get'; done
+    for case in 16 17 22; do rejects $case 'call to.*get'; done
     rejects 18 'conversion from.*parser'
+    rejects 19 'deleted.*parse_in_place'
+    rejects 20 'deleted.*operator\[\]'
+    rejects 21 'operator\[\]'
+    echo '#include <simd_json.hpp>' > "$room/old.cpp"
+    for option in -std=c++14 -fno-exceptions; do
+        if c++ "$option" -fsyntax-only -Iinclude "$room/old.cpp" 2> "$room/log" ||
+            ! grep -m1 '#error' "$room/log" | grep -q 'use -std=c++17, and not -fno-exceptions'; then
+            echo "simd_json.hpp does not say what it needs, with $option"
+            exit 1
+        fi
+    done
 else
     left_out="$left_out C++ (no c++);"
 fi
@@ -103,6 +114,9 @@ if python3 -c 'import sysconfig, os; raise SystemExit(not os.path.exists(sysconf
     done
     export PYTHONPATH="$room/site" PYTHONDONTWRITEBYTECODE=1
     run python3 -m unittest discover -s python/tests
+    # What README shows of it.
+    sed '/^```/d' README.md > "$room/README.txt"
+    run python3 -m doctest "$room/README.txt"
     include=$(python3 -c 'import sysconfig; print(sysconfig.get_paths()["include"])')
     # The same with a module whose allocations fail in turn.
     native_module "$room/failing" -O1 python/native.c python/tests/failing.c build/libsimd_json.a \

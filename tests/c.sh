@@ -58,14 +58,14 @@ fi
 # The version is the header's everywhere, and the shared library has its first two numbers, as long as the first is 0, in its soname
 # and at each symbol.
 version=$(sed -n 's/^#define SIMD_JSON_VERSION_[A-Z]* //p' include/simd_json.h | paste -sd.)
-for named in "CHANGELOG.md:## $version" "README.md:simd_json-$version-x86_64" "bindings/rust/Cargo.toml:version = \"$version\"" \
+for named in "CHANGELOG.md:## $version" "docs/INSTALL.md:simd_json-$version-x86_64" "bindings/rust/Cargo.toml:version = \"$version\"" \
     crates/jcheck/src/options.rt:".version(\"$version\")" crates/jpick/src/options.rt:".version(\"$version\")" \
     crates/log_report/src/options.rt:".version(\"$version\")"; do
     grep -qF "${named#*:}" "${named%%:*}" || { echo "${named%%:*} has another version than $version"; exit 1; }
 done
 abi=${version%.*}
 readelf -d "build/libsimd_json.so.$version" | grep -q "(SONAME).*\[libsimd_json.so.$abi\]" || { echo "no soname"; exit 1; }
-wrong=$(nm -D --defined-only build/libsimd_json.so | grep -v -e " T simd_json_[a-z_]*@@SIMD_JSON_$abi\$" -e " A SIMD_JSON_$abi\$" || true)
+wrong=$(nm -D --defined-only build/libsimd_json.so | grep -v -e " T simd_json_[a-z0-9_]*@@SIMD_JSON_$abi\$" -e " A SIMD_JSON_$abi\$" || true)
 [ -z "$wrong" ] || { echo "libsimd_json.so has other symbols: $wrong"; exit 1; }
 
 # The statuses of the header are the crate's.
@@ -81,6 +81,10 @@ example="$room/example.c -o $room/example"
 if command -v pkg-config > /dev/null; then
     export PKG_CONFIG_PATH="$room/installed/lib/pkgconfig"
     found=$(pkg-config --cflags --libs "simd_json = $version")
+    # shellcheck disable=SC2046,SC2086
+    cc -static $example $(pkg-config --static --cflags --libs simd_json)
+    printed=$("$room/example")
+    [ "$printed" = 42 ] || { echo "by pkg-config --static the example prints '$printed', not 42"; exit 1; }
 else
     left_out="$left_out pkg-config (not installed);"
     found="-I$room/installed/include -L$room/installed/lib -lsimd_json"
@@ -96,6 +100,13 @@ else
 fi
 if command -v c++ > /dev/null; then
     echo '#include <simd_json.h>' | c++ -x c++ -Wall -Wextra -Werror -fsyntax-only -Iinclude -
+fi
+
+# The compiler warns of a null pointer where there must be none.
+if echo '#include <simd_json.h>
+int main(void) { return simd_json_check("", 0, 0, 0); }' | cc -x c -Wall -Werror -fsyntax-only -Iinclude - 2> /dev/null; then
+    echo "a null place is not warned of"
+    exit 1
 fi
 
 [ -z "$left_out" ] || echo "tests/c.sh: left out:${left_out%;}"

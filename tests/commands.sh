@@ -1,7 +1,7 @@
 #!/bin/sh
-# Runs what README.md and docs/LINES.md show after `$ ` with the programs that the gate has built, and compares what is printed with
+# Runs what README.md and docs/PROGRAMS.md show after `$ ` with the programs that the gate has built, and compares what is printed with
 # what those pages say; runs the rows of CONTRIBUTING.md, whose other commands prove, and must be there; looks for the code of
-# README.md and docs/READING.md in tests and programs; follows links; and asks what bash completes. Silent where all is well, else
+# docs/INSTALL.md and docs/READING.md in tests and programs; follows links; and asks what bash completes. Silent where all is well, else
 # status 1. The other commands are those of `make test`, install.sh, jq.sh and engines.sh.
 set -u
 top=$(cd "$(dirname "$0")/.." && pwd)
@@ -18,7 +18,7 @@ different=0
 
 # Each command prints itself, then what it writes to standard output and standard error, as on a terminal. Its status is that of the
 # next `$?`.
-for page in README.md docs/LINES.md; do
+for page in README.md docs/PROGRAMS.md; do
     awk '/^```/ { inside = !inside; shown = 0; next } inside && /^\$ / { shown = 1 } shown' "$top/$page" > "$room/wanted"
     awk '/^\$ / { print "s=$?; cat <<\\END\n" $0 "\nEND\n{ (exit $s); " substr($0, 3) "; } 2>&1; s=$?; (exit $s)" }' \
         "$room/wanted" > "$room/script"
@@ -60,7 +60,7 @@ bash -c '. "$1"
     done
     completed jtape "" && printf "jtape %s\n" "${COMPREPLY[@]}"
     completed jcheck --color = a && echo "--color=${COMPREPLY[*]}"
-    for words in "jtape tape l" "jtape tape < l" "jpick --depth 1" "jpick --where = @" "log_report --and k" "log_report k l" "jcheck -- -"; do
+    for words in "jtape tape l" "jtape tape < l" "jpick --depth 1" "jpick --where = @" "log_report --and k" "log_report --key k" "log_report k l" "jcheck -- -"; do
         completed $words
         echo "$words: ${COMPREPLY[*]:-$files}"
     done' - \
@@ -75,6 +75,7 @@ jtape tape < l: files
 jpick --depth 1: no file
 jpick --where = @: no file
 log_report --and k: no file
+log_report --key k: no file
 log_report k l: files
 jcheck -- -: files
 END
@@ -96,10 +97,10 @@ grep -oE '(^|`)(rt|make|sh) [a-z][a-z/_.-]*|`crates/simd_json[a-z_/]*[.]rt' "$ro
 [ ! -s "$room/absent" ] || { cat "$room/absent"; different=1; }
 (cd "$top" && sh tests/links.sh ./*.md docs/*.md bench/HISTORY.md examples/README.md bindings/rust/README.md python/README.md) || different=1
 
-# A paragraph of code is one line, without comments and imports. The program of the README's installation is run by install.sh.
+# A paragraph of code is one line, without comments and imports. The program of the installation is run by install.sh.
 lines() { sed 's/^ *//; /^\/\//d; /^use /d; s/pub(super) //g; s/^pub fn /fn /' | awk -v RS= '{ gsub(/\n/, " "); print }'; }
-(cd "$top" && find crates -path '*/src/*tests/*.rt' -o -path '*/src/main.rt' -o -path '*/jsonl/src/command_line.rt' | xargs cat) | lines > "$room/code"
-for page in README.md docs/READING.md; do
+(cd "$top" && find crates -path '*/src/*tests/*.rt' -o -path '*/src/main.rt' -o -path '*/programs/src/command_line.rt' | xargs cat) | lines > "$room/code"
+for page in docs/INSTALL.md docs/READING.md; do
     awk '/^```rust/ { inside = 1; next } /^```/ { inside = 0; print "" } inside' "$top/$page" |
         sed '/^\/\/! Prints/,/^}/d' | lines > "$room/blocks"
     awk 'NR == FNR { all = all $0 " "; next } !index(all, $0) { print "in no test or program: " $0; wrong = 1 } END { exit wrong }' \

@@ -10,8 +10,9 @@ room=$(mktemp -d) || exit 1
 trap 'rm -rf "$room"' EXIT
 
 cat > "$room/exceptions" << 'END'
-jsonl arguments                       no contract says which words the system passes
-jsonl Source::new                     no contract says which bytes a file has
+programs arguments                    no contract says which words the system passes
+programs Source::new                  no contract says which bytes a file has
+programs print_ending                 no contract says what standard error shows
 jcheck Options::depth                 options are tested (tests/statuses.sh)
 jcheck Options::has_lines             as above
 jcheck Options::color                 as above

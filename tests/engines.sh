@@ -1,5 +1,5 @@
 #!/bin/sh
-# Runs each `sh` block of docs/LINES.md and examples/README.md as it is printed there, over logs of 150,000 lines of which two are
+# Runs each `sh` block of docs/PROGRAMS.md and examples/README.md as it is printed there, over logs of 150,000 lines of which two are
 # rejected, and compares what it writes, byte for byte, with what one process writes, and the status with what those pages say. The
 # hosts of GNU parallel are two SSH servers in network namespaces that are made here; Dask has two worker processes. A command for
 # many machines also runs while a host or a worker dies in the middle of a part. Prints a line for each run and for what was left
@@ -159,7 +159,7 @@ else
     say "left out: Dask, as python3-distributed is not installed"
 fi
 
-awk '/^```sh$/ { inside = 1; next } /^```/ { inside = 0 } inside' "$top/docs/LINES.md" "$top/examples/README.md" > commands
+awk '/^```sh$/ { inside = 1; next } /^```/ { inside = 0 } inside' "$top/docs/PROGRAMS.md" "$top/examples/README.md" > commands
 while read -r command <&3; do
     case $command in
     *--sshlogin*)

@@ -1,5 +1,5 @@
 #!/bin/sh
-# Runs the section "Install" of README.md as it is printed there: its `sh` blocks in an empty folder beside this repository, with
+# Runs the section "A Rattle program" of docs/INSTALL.md as it is printed there: its `sh` blocks in an empty folder beside this repository, with
 # its `rust` block saved under the name that the text gives, compares what is printed, tries the blocks of docs/READING.md, and
 # tries `make vendor` where something is there already. It proves nothing: the first `rt run` takes about ten minutes. Silent
 # where all is well, else status 1.
@@ -15,7 +15,7 @@ wrong() { different=1; echo "$1"; }
 
 # The section as one script. A `rust` block goes to the file that the text before it names.
 awk -v ticks='```' '
-    /^## / { inside = ($0 == "## Install") }
+    /^## / { inside = ($0 == "## A Rattle program") }
     !inside { next }
     $0 == ticks && block == "rust" { print "THE_END" }
     $0 == ticks { block = "" }
@@ -24,15 +24,17 @@ awk -v ticks='```' '
     $0 == ticks "rust" { block = "rust"; print "cat > " file " << '"'THE_END'"'" }
     match($0, /Save this as `[^`]*`/) { file = substr($0, RSTART + 14, RLENGTH - 15) }
     match($0, /^It prints `[^`]*`/) { print substr($0, RSTART + 11, RLENGTH - 12) > wanted }
-' wanted="$room/wanted" "$top/README.md" > "$room/script"
+' wanted="$room/wanted" "$top/docs/INSTALL.md" > "$room/script"
 (cd "$room/empty" && sh -eu "$room/script") > "$room/out" 2> "$room/err" || { cat "$room/out" "$room/err"; exit 1; }
-tail -n 1 "$room/out" | cmp -s - "$room/wanted" || wrong "README.md, Install: not what it says is printed: $(cat "$room/out")"
+tail -n 1 "$room/out" | cmp -s - "$room/wanted" || wrong "docs/INSTALL.md: not what it says is printed: $(cat "$room/out")"
 [ -z "$(find "$room"/empty/crates/simd_json* -mindepth 1 -maxdepth 1 ! -name src ! -name specs ! -name proofs ! -name 'LICENSE-*')" ] ||
     wrong "make vendor copies more than src, specs, proofs and the licenses"
 
 # Each `rust` block of docs/READING.md compiles as it is printed there.
+make -s -C "$top" vendor DIR="$room/empty" CRATES=simd_json_serde > "$room/out" 2>&1 && [ -d "$room/empty/crates/simd_json_serde/src" ] ||
+    wrong "make vendor does not copy the crate that is named: $(cat "$room/out")"
 mkdir -p "$room/empty/crates/reading/src"
-echo 'reading: simd_json fast_float' >> "$room/empty/crates.txt"
+echo 'reading: simd_json simd_json_serde serde fast_float' >> "$room/empty/crates.txt"
 awk -v ticks='```' -v folder="$room/empty/crates/reading/src" '
     BEGIN { print "//! The blocks, each in a module.\n#![tactic(auto)]\n" }
     $0 == ticks { file = "" }
@@ -52,8 +54,6 @@ again() {
     (cd "$1" && find . -type f -exec cksum {} +) | cmp -s - "$room/before" || wrong "make vendor over $3 changed something"
 }
 again "$room/empty" 0 "its own crates"
-make -s -C "$top" vendor DIR="$room/empty" CRATES=simd_json_serde > "$room/out" 2>&1 && [ -d "$room/empty/crates/simd_json_serde/src" ] ||
-    wrong "make vendor does not copy the crate that is named: $(cat "$room/out")"
 make -s -C "$top" vendor DIR="$room/theirs" CRATES=simd > "$room/out" 2>&1 && wrong "make vendor copies a crate that is not there"
 echo '// a change' >> "$room/empty/crates/simd_json_print/src/lib.rt"
 again "$room/empty" 2 "a crate that was changed"

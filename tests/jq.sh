@@ -1,5 +1,5 @@
 #!/bin/sh
-# Runs README.md's commands beside jq. The inputs of its table of differences go through both programs, and what each prints must be
+# Runs docs/PROGRAMS.md's commands beside jq. The inputs of its table of differences go through both programs, and what each prints must be
 # what the table says. The two commands of each task must print the same of a small log. jq is left out where its version is not
 # the table's. Silent where all is well, but for what was left out; else status 1.
 #
@@ -23,8 +23,8 @@ wrong() { different=1; printf '%s: %s\n' "$1" "$2"; }
 # The tasks: our command and that of jq.
 awk -F ' [|] ' '/^[|] to [|]/ { inside = 1; next } inside && /^$/ { exit } inside && !/^[|]---/ {
     split($2, ours, "`"); split($3, theirs, "`"); gsub(/\\[|]/, "|", theirs[2]); print ours[2] "\t" theirs[2]
-}' "$top/README.md" > "$room/tasks"
-[ "$(wc -l < "$room/tasks")" -eq 13 ] || wrong "README.md's tasks, wanted 13" "$(wc -l < "$room/tasks")"
+}' "$top/docs/PROGRAMS.md" > "$room/tasks"
+[ "$(wc -l < "$room/tasks")" -eq 13 ] || wrong "docs/PROGRAMS.md's tasks, wanted 13" "$(wc -l < "$room/tasks")"
 
 if [ $# -gt 0 ]; then
     cd "$1" || exit 1
@@ -45,7 +45,7 @@ fi
 # program prints.
 # shellcheck disable=SC2016
 sed -n '/^| input | `jq/,/^$/ { s/.*, \([0-9.]*\) |.*/\1/p; s/^| `\(.*\)`[^|]* | `\(.*\)` | `\(.*\)` |$/\1|\2|\3/p; }' \
-    "$top/README.md" > "$room/rows"
+    "$top/docs/PROGRAMS.md" > "$room/rows"
 {
     read -r version
     [ "$(jq --version 2> /dev/null)" = "jq-$version" ] || { echo "left out: jq $version, which is not installed"; version=; }
@@ -57,7 +57,7 @@ sed -n '/^| input | `jq/,/^$/ { s/.*, \([0-9.]*\) |.*/\1/p; s/^| `\(.*\)`[^|]* |
         [ -z "$version" ] || [ "$(jq -c . < "$room/in" 2>&1)" = "$by_jq" ] || wrong "jq prints otherwise" "$input"
         [ "$(jtape compact < "$room/in" 2>&1)" = "$by_us" ] || wrong "jtape prints otherwise" "$input"
     done
-    [ "$rows" -eq 5 ] || wrong "README.md's rows beside jq, wanted 5" "$rows"
+    [ "$rows" -eq 5 ] || wrong "docs/PROGRAMS.md's rows beside jq, wanted 5" "$rows"
 } < "$room/rows"
 
 cd "$room" || exit 1

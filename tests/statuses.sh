@@ -156,7 +156,7 @@ wanted 'a count by two values' 1 '2 "x"\t1\n1 !\n1 "-"\t-\n' '-:4:4: expected a 
 given '{"a":"-"}\n{"a":"x\\ty"}\n{"a":null,"-b":[1]}\n[1,]' --tsv --and -b a
 wanted 'a count as TSV' 1 '1\t\\!\n1\t-\t\\-\n1\tx\\ty\t\\-\n1\t\t[1]\n' '-:4:4: expected a value, found `]` [InternalError]\n'
 given '{}\n123456\n12345678' --longest 7 level
-wanted 'a line that is too long' 1 '2 -\n1 !\n' '-:3: longer than 7 bytes\n'
+wanted 'a line that is too long' 1 '2 -\n1 !\n' '-:3: longer than 7 bytes (--longest)\n'
 given '{"a":1}\n{"a":2}\n{"a":1}\n{"a":3}\n' --values 1 a
 wanted 'values without a count of their own' 0 '2 *\n2 1\n' \
     'log_report: lines under *: 2 (--values for more than 1 values; a row has at most 1024 bytes)\n'
@@ -194,15 +194,28 @@ for values in +1 -0; do
     said "log_report --values=$values" 2 "invalid value '$values' for '--values <N>': invalid digit found in string"
 done
 
-# Of selectors JSON Pointers alone may be malformed: a key may be of any bytes.
+# A JSON Pointer may be malformed, and what looks like another path is no key, but by --key.
 for pointer in '/~' '/a/~2' '/~/0' '/~1~' '/~01~'; do
     given '{}' "$pointer"
     said "the pointer $pointer" 2 "invalid value '$pointer' for '<KEY|POINTER>': expected 0 or 1 after each ~"
     given '{}' level --and "$pointer"
     said "the pointer $pointer, by --and" 2 "invalid value '$pointer' for '<KEY|POINTER>': expected 0 or 1 after each ~"
 done
+for path in .a .a.b . '$.a' '$'; do
+    given '{}' "$path"
+    said "the path $path" 2 "invalid value '$path' for '<KEY|POINTER>': log_report counts by a key or a JSON Pointer: level, /level; --key"
+    given '{}' level --and "$path"
+    said "the path $path, by --and" 2 "'$path' for '<KEY|POINTER>': log_report counts by a key or a JSON Pointer: level, /level; --key"
+done
+given '{".a":1,"/b":2,"c":3}\n{"a":1}' --key .a --and c --key=/b
+wanted 'keys of any bytes' 0 '1 1\t3\t2\n1 -\t-\t-\n' ''
 given '{"~":1,"~1":2}' '~' --and /~0 --and '/~01' --and / --and '~1' --and '' --and a~
 wanted 'selectors with ~' 0 '1 1\t1\t2\t-\t2\t-\t-\n' ''
+
+given '' "$room/wanted-out" --key k
+sed -i "s|$room|room|" "$room/err"
+wanted 'a file in place of the key' 0 '' \
+    'log_report: `room/wanted-out` is a file; the first word is a key or a JSON Pointer\n'
 
 # A line ends with its file, and is named by the number that it has there.
 printf '{"k":1}\n{"k":2}' > "$room/a"
@@ -225,7 +238,7 @@ if [ -w /dev/full ]; then
     : > "$room/out"
     echo '{}' | "$program" level > /dev/full 2> "$room/err"
     status=$?
-    wanted 'a report on a full disk' 3 '' 'log_report: standard output: writing failed\n'
+    wanted 'a report on a full disk' 3 '' 'log_report: standard output: No space left on device (os error 28)\n'
 fi
 : > "$room/out"
 # gone: waits until the reader of standard output has closed it.
@@ -270,13 +283,13 @@ wanted 'fields, where a line is rejected' 1 '1\t{"a":1}\n3\t{"a":3}\n' '-:2:4: e
 given '[1,]\n' -q /a
 wanted 'a rejected line, quietly' 1 '' ''
 given '[12]\n[1]' --longest 3 /0
-wanted 'a line that is too long' 1 '1\n' '-:1: longer than 3 bytes\n'
+wanted 'a line that is too long' 1 '1\n' '-:1: longer than 3 bytes (--longest)\n'
 given '[[1]]\n[2]' --depth 1 /0
 wanted 'a line that is too deep' 1 '2\n' '-:1:2: one container more than the depth limit [DepthLimitExceeded]\n'
 document='{\n "k": [1,\n 2]}\n'
 hint='jpick: with -d each file is one document\n'
 given "$document" /k
-wanted 'a document in place of lines' 1 '' "-:1:1: the input ends after this, within the document [Syntax]
+wanted 'a document in place of lines' 1 '' "-:1:1: the input ends after this, within the object that begins at 1:1 [Syntax]
 ${hint}-:2:5: more text after the document [TrailingData]\n-:3:3: more text after the document [TrailingData]\n"
 for option in -d --document; do
     given "$document" "$option" /k/1
@@ -351,7 +364,7 @@ wanted 'rows by --header --csv' 1 '"/k","/a""b"\n"x\ty",\n"""",\n' ''
 echo '{}' | "$program" --header --csv /k >&- 2> "$room/err"
 status=$?
 : > "$room/out"
-wanted 'a header for a closed output' 3 '' 'jpick: standard output: writing failed\n'
+wanted 'a header for a closed output' 3 '' 'jpick: standard output: Bad file descriptor (os error 9)\n'
 given "$rows" --header --json /k
 said 'jpick --header --json' 2 --json
 given "$rows" --json /k --and /l
@@ -368,20 +381,36 @@ given "$rows" --tsv --csv /k
 said 'jpick --tsv --csv' 2 --csv
 for query in a '/~' '/a/~2' @.a; do
     given '1' "$query"
-    wanted "the query '$query'" 2 '' "jpick: \`$query\` is neither a JSON Pointer nor a JSONPath, which begins with \`\$\`\n"
+    wanted "the query '$query'" 2 '' "jpick: \`$query\` is neither a JSON Pointer, as \`/a/b\`, nor a JSONPath, as \`\$.a.b\`\n"
 done
+given '1' .a.b
+wanted 'a path of jq' 2 '' 'jpick: `.a.b` is a path of jq; a JSONPath has `$` in front of it\n'
 given '1' /a --and b
-wanted 'a second query' 2 '' 'jpick: `b` is neither a JSON Pointer nor a JSONPath, which begins with `$`\n'
+wanted 'a second query' 2 '' 'jpick: `b` is neither a JSON Pointer, as `/a/b`, nor a JSONPath, as `$.a.b`\n'
 given '1' '$.a['
-wanted 'a path that ends early' 2 '' 'jpick: `$.a[` is not a JSONPath: expected a selector at byte 4\n'
+wanted 'a path that ends early' 2 '' 'jpick: not a JSONPath: expected a selector\n$.a[\n    ^\n'
 given '1' /a --and '$.a[?match(@.b, "c")]'
-wanted 'a path with match' 2 '' 'jpick: `$.a[?match(@.b, "c")]` is not a JSONPath: expected a test without match or search at byte 5\n'
-given '1' '$..a' --depth 2000
-wanted 'a path with .. and a great depth' 2 '' 'jpick: depth 2000 and the segments of a query with `..` are together more than 1088\n'
-given '1' '$[?@..a]' --depth 1089
-wanted 'a filter with .. and a great depth' 2 '' 'jpick: depth 1089 and the segments of a query with `..` are together more than 1088\n'
-given '1' --where '@..a' --depth 1089 ''
-wanted 'a condition with .. and a great depth' 2 '' 'jpick: depth 1089 and the segments of a query with `..` are together more than 1088\n'
+wanted 'a path with match' 2 '' \
+    'jpick: not a JSONPath: expected a test without match or search\n$.a[?match(@.b, "c")]\n     ^\n'
+# What is written in other languages: a path, what it lacks, how many columns in, and what is meant.
+while IFS='#' read -r path column lacks meant; do
+    given '1' "$path"
+    wanted "the path $path" 2 '' "jpick: not a JSONPath: expected $lacks; $meant\\n$path\\n%${column}s^\\n"
+done << 'END'
+$[?@.a = 1]#7#, or ]#write == for equality
+$[?@.a === 1]#9#a literal, a query or a function#write == for equality
+$[?@.a == 1 and @.b]#12#, or ]#write && for and
+$[?@.a == 1 OR @.b]#12#, or ]#write || for or
+$[?not @.a]#3#a test#write ! for not, as !(@.a == 1)
+$[?@.a in [1,2]]#7#, or ]#write @.a == 1 || @.a == 2 for in
+$[?@.a =~ /b/]#7#, or ]#there are no regular expressions
+$[?a == 1]#3#a test#write @.a for a member, and 'a' for a string
+$[?@.a == b]#10#a literal, a query or a function#write @.a for a member, and 'a' for a string
+$.a-b#3#. or [ or the end#write ['a-b'] for a name with such characters
+$a#1#. or [ or the end#write $.a for a member
+$.a,$.b#3#. or [ or the end#write --and before each further query
+$.a < 1#4#. or [ or the end#write --where '@.a == 1' for a test
+END
 given '{"a..b":1}' '/a..b' --depth 1089
 wanted 'a pointer with .. and a great depth' 0 '1\n' ''
 given '1' "$room/a"
@@ -391,11 +420,53 @@ at=$(cd "$(dirname "$program")" && pwd)/$(basename "$program")
 (cd "$room" && "$at" one < one > out 2> err; echo $? > status)
 status=$(cat "$room/status")
 wanted 'a file in place of the query' 2 '' 'jpick: `one` is a file; the first word is the query, a JSON Pointer or a JSONPath\n'
-for row in '/status=500|a test at byte 0' '@.a = 1|&&, || or the end at byte 4' '@.a ==|a literal, a query or a function at byte 6' \
-    '@[*] == 1|a query of at most one node at byte 1' '|a test at byte 0'; do
-    given '1' --where "${row%%|*}" /a
-    wanted "the condition '$row'" 2 '' "jpick: \`${row%%|*}\` is not a condition, as \`@.status == 500\`: expected ${row#*|}\n"
+while IFS='#' read -r condition column lacks; do
+    given '1' --where "$condition" /a
+    wanted "the condition '$condition'" 2 '' \
+        "jpick: not a condition, as \`@.status == 500\`: expected $lacks\\n$condition\\n%${column}s^\\n"
+done << 'END'
+/status=500#0#a test; write @.a for a member, and 'a' for a string
+.a == 1#0#a test; write @.a for a member, and 'a' for a string
+@.a = 1#4#&&, || or the end; write == for equality
+@.a ==#6#a literal, a query or a function
+@[*] == 1#1#a query of at most one node
+#0#a test
+END
+given '{"a":[1,{"b":"c"}]}\n' -d --pretty
+wanted 'a document over several lines' 0 '{\n  "a": [\n    1,\n    {\n      "b": "c"\n    }\n  ]\n}\n' ''
+for option in --tsv --csv --json; do
+    given '1' --pretty "$option"
+    said "jpick --pretty $option" 2 "$option"
 done
+given '1' --all
+said 'jpick without a query' 2 'QUERY'
+given '{"k":1}\n{"k":2}\n' --where '@.k == 2'
+wanted 'whole lines' 0 '{"k":2}\n' ''
+given '' --where '@.k == 2' "$room/one" -
+wanted 'whole lines of files' 0 '' ''
+for option in -e --exit-status; do
+    given '{}\n{"k":""}\n' -r "$option" /k
+    wanted "a row by $option" 0 '\n' ''
+    given '{}\n{"k":1}\n' "$option" /k --and /l
+    wanted "no row by $option" 1 '' ''
+    given '' --header "$option" /k
+    wanted "no line by $option" 1 '/k\n' ''
+    given '1\n[1,]\n' "$option" ''
+    wanted "a row and a rejected line by $option" 1 '1\n' '-:2:4: expected a value, found `]` [InternalError]\n'
+done
+given '{"a,":{"b":1}}' '/a,/b'
+wanted 'a pointer with a comma' 0 '1\n' 'jpick: `/a,/b` is one query; write --and before a second one\n'
+given '' -q '/a,/b'
+wanted 'a pointer with a comma, quietly' 0 '' ''
+for query in /b '$.b'; do
+    given '' /a "$query"
+    wanted "$query for a file" 3 '' "jpick: $query: No such file or directory (os error 2); write --and before a second query\n"
+done
+given '' --where '@.a' .b
+wanted '.b for a file' 3 '' 'jpick: .b: No such file or directory (os error 2); a query begins with `/` or `$`\n'
+given '' /a /b.json ./b
+wanted 'files that are not there' 3 '' \
+    'jpick: /b.json: No such file or directory (os error 2)\njpick: ./b: No such file or directory (os error 2)\n'
 for option in --where-not --exists; do
     given '1' "$option" /a /a
     said "jpick $option" 2 "$option"
@@ -412,11 +483,11 @@ said 'a folder as input, fields' 3 'jpick: -: '
 : > "$room/out"
 echo '[1]' | "$program" /0 >&- 2> "$room/err"
 status=$?
-wanted 'closed output, fields' 3 '' 'jpick: standard output: writing failed\n'
+wanted 'closed output, fields' 3 '' 'jpick: standard output: Bad file descriptor (os error 9)\n'
 if [ -w /dev/full ]; then
     echo '[1]' | "$program" /0 > /dev/full 2> "$room/err"
     status=$?
-    wanted 'a full disk, fields' 3 '' 'jpick: standard output: writing failed\n'
+    wanted 'a full disk, fields' 3 '' 'jpick: standard output: No space left on device (os error 28)\n'
 fi
 "$program" /0 "$room/one" "$room/missing" "$room/one" > "$room/out" 2> "$room/err"
 status=$?
@@ -504,6 +575,22 @@ for option in --color=never --lines; do
     { gone; echo '[1,]' | "$program" "$option" 2> "$room/err"; echo $? > "$room/status"; } | :
     status=$(cat "$room/status")
     wanted "a closed pipe, jcheck $option" 1 '' ''
+done
+
+# Control characters in names are escaped, and words that are not UTF-8 have a reason.
+printf '[1,]' > "$room/$(printf 'a\033[31mb')"
+for words in "$log_report k" "${3:-$(dirname "$0")/../crates/jpick_main/out/jpick_main} /k" \
+    "${4:-$(dirname "$0")/../crates/jcheck_main/out/jcheck_main} --lines"; do
+    program=$(cd "$(dirname "${words% *}")" && pwd)/$(basename "${words% *}")
+    name=$(basename "$program" _main)
+    (cd "$room" && "$program" "${words##* }" "$(printf 'a\033[31mb')" "$(printf '\033')" > out 2>&1)
+    grep -q '^a.x1b.31mb:1:4: ' "$room/out" && grep -q "^$name: .x1b: " "$room/out" && ! grep -q "$(printf '\033')" "$room/out" || {
+        different=1
+        echo "$name: control characters in names"
+        cat -v "$room/out"
+    }
+    given '' "$(printf '\377')"
+    wanted "$name, an argument that is no UTF-8" 2 '' "$name: an argument is not UTF-8\n"
 done
 
 # Help and version, where they can't be written, and where nobody reads them.

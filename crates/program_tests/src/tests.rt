@@ -1,6 +1,6 @@
 //! By the program whose library they test; here are the readers and writers that they share.
-use jsonl::Channel;
 use linked_list_allocator::LocalHeap;
+use programs::Channel;
 use std::alloc::Global;
 use std::io::{self, ErrorKind, Read, Write};
 use std::test::Fail;
@@ -42,6 +42,41 @@ fn in_blocks(rest: &[u8], size: usize) -> Blocks<'_> {
         rest,
         size,
         fault: None,
+    }
+}
+
+// Fails with `Interrupted` at each call but every third, which is the reader's or the writer's.
+#[derive(Drop)]
+struct Interrupted<T> {
+    inner: T,
+    calls: usize,
+}
+
+impl<T> Interrupted<T> {
+    fn call(&mut self) -> io::Result<()> {
+        self.calls = self.calls.wrapping_add(1);
+        match self.calls % 3 {
+            0 => Ok(()),
+            _ => Err(io::Error::from(ErrorKind::Interrupted)),
+        }
+    }
+}
+
+impl<R: Read> Read for Interrupted<R> {
+    fn read(&mut self, buf: &mut [u8]) -> io::Result<usize> {
+        self.call()?;
+        self.inner.read(buf)
+    }
+}
+
+impl<W: Write> Write for Interrupted<W> {
+    fn write(&mut self, buf: &[u8]) -> io::Result<usize> {
+        self.call()?;
+        self.inner.write(buf)
+    }
+
+    fn flush(&mut self) -> io::Result<()> {
+        Ok(())
     }
 }
 

@@ -74,7 +74,7 @@ fn assert_path_selects(
     let tape = to_tape(rt.alloc(), input.as_mut_slice()).expect(rt, "a document");
     assert!(rt; !tape.is_empty());
     let mut frames = [Frame::closed(); 16];
-    assert!(rt; path.frames(8) <= frames.len());
+    assert!(rt; path.frames() <= frames.len());
     let mut index = 0usize;
     for item in path.select(&tape.as_value(), &mut frames) {
         let value = item.expect(rt, "there are frames enough");

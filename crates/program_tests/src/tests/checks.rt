@@ -1,8 +1,8 @@
 //! Checks of documents and of lines; here is what both share: how an input is read, and what is
 //! written.
 use crate::tests::{Tested, in_blocks};
-use jcheck::{Checker, Failure, Style, check_document, check_lines};
-use jsonl::Channel;
+use jcheck::{DocumentChecker, Failure, Style, check_document, check_lines};
+use programs::Channel;
 use std::io::{self, ErrorKind, Write};
 use std::process::Abort;
 use std::test::Fail;
@@ -52,7 +52,7 @@ fn check<W: Write>(
     form: Form,
     style: Style,
 ) -> Result<bool, Failure> {
-    let mut checker = Checker::new(rt.alloc(), 4);
+    let mut checker = DocumentChecker::new(rt.alloc(), 4);
     match form {
         Form::Document => check_document(&mut checker, out, "f", input, style),
         Form::Lines(size) => {

@@ -1,6 +1,8 @@
 //! The lines of a reader, and how a run over them ends.
-use crate::tests::{Blocks, Tested, in_blocks};
-use jsonl::{Channel, Failure, Lines, Source, Step, ending};
+use crate::tests::{Blocks, Interrupted, Tested, in_blocks};
+use programs::{
+    Channel, Event, Failure, Lines, Retrying, Source, ending, put_name, read_all, shown,
+};
 use std::io::{ErrorKind, Read};
 
 // An input, and its lines, of at most 3 bytes each: of longer ones the first 4.
@@ -22,14 +24,14 @@ fn lines_are_cut(rt: HostRuntime) -> Tested {
             let mut line = Vec::from_slice(rt.alloc(), b"xyz")?;
             let mut count = 0usize;
             for _ in 0..100 {
-                let step = lines.next(&mut reader, &mut line)?;
-                if step != Step::Block {
+                let event = lines.next(&mut reader, &mut line)?;
+                if event != Event::Block {
                     assert_eq!(rt; Some(line.as_slice()), wanted.get(count).copied());
                     count = count.saturating_add(1);
                     line.clear();
                     line.extend_from_slice(b"overwritten")?;
                 }
-                if step == Step::End {
+                if event == Event::End {
                     break;
                 }
             }
@@ -71,6 +73,53 @@ fn sources_keep_their_fault(rt: HostRuntime) -> Tested {
     Ok(())
 }
 
+// Control characters of C0 and C1 are escaped.
+#[test]
+fn texts_are_shown(rt: HostRuntime) -> Tested {
+    let rows = [
+        ("", ""),
+        ("a b\\.json", "a b\\.json"),
+        ("a\n\u{1b}[31mb", "a\\x0a\\x1b[31mb"),
+        (
+            "\0\u{7f}\u{80}\u{9b}\u{9f}\u{a0}\u{e9}",
+            "\\x00\\x7f\\x80\\x9b\\x9f\u{a0}\u{e9}",
+        ),
+    ];
+    for (text, wanted) in rows {
+        assert_eq!(rt; shown(rt.alloc(), text)?.as_str(), wanted);
+    }
+    Ok(())
+}
+
+// What a signal interrupts is tried again, and is no failure.
+#[test]
+fn interrupted_calls_are_tried_again(rt: HostRuntime) -> Tested {
+    let standard = Interrupted {
+        inner: in_blocks(b"abcdef", 2),
+        calls: 0,
+    };
+    let mut reader = Channel::new(Source::new(&rt, standard, "-"));
+    assert_eq!(rt;
+        read_all(rt.alloc(), &mut reader)?.as_slice(),
+        b"abcdef".as_slice()
+    );
+    assert!(rt; !reader.failed() && reader.into_inner().fault().is_none());
+    let mut writer = Channel::new(Retrying::new(Interrupted {
+        inner: Vec::new(rt.alloc()),
+        calls: 0,
+    }));
+    put_name(&mut writer, "f", b":1: x\n")?;
+    assert!(rt; !writer.failed());
+    let writer = writer.into_inner();
+    assert!(rt; writer.has_written());
+    let writer = writer.into_inner();
+    assert_eq!(rt;
+        (writer.inner.as_slice(), writer.calls),
+        (b"f:1: x\n".as_slice(), 3)
+    );
+    Ok(())
+}
+
 // Reading fails in mid-line.
 #[test]
 fn a_failed_read_is_no_line(rt: HostRuntime) {
@@ -80,9 +129,9 @@ fn a_failed_read_is_no_line(rt: HostRuntime) {
         fault: Some(ErrorKind::BrokenPipe),
     });
     let (mut lines, mut line) = (Lines::new(3), Vec::new(rt.alloc()));
-    assert_eq!(rt; lines.next(&mut reader, &mut line), Ok(Step::Block));
-    assert_eq!(rt; lines.next(&mut reader, &mut line), Ok(Step::Line));
-    assert_eq!(rt; lines.next(&mut reader, &mut line), Ok(Step::Block));
+    assert_eq!(rt; lines.next(&mut reader, &mut line), Ok(Event::Block));
+    assert_eq!(rt; lines.next(&mut reader, &mut line), Ok(Event::Line));
+    assert_eq!(rt; lines.next(&mut reader, &mut line), Ok(Event::Block));
     assert_eq!(rt; lines.next(&mut reader, &mut line), Err(Failure::Read));
 }
 
@@ -95,20 +144,20 @@ fn a_block_comes_before_each_read(rt: HostRuntime) {
         fault: None,
     });
     let (mut lines, mut line) = (Lines::new(3), Vec::new(rt.alloc()));
-    let (block, end) = ((Step::Block, b"".as_slice()), (Step::End, b"".as_slice()));
+    let (block, end) = ((Event::Block, b"".as_slice()), (Event::End, b"".as_slice()));
     let (a, b, c) = (b"a".as_slice(), b"b".as_slice(), b"c".as_slice());
-    let steps = [
+    let events = [
         block,
-        (Step::Line, a),
-        (Step::Line, b),
+        (Event::Line, a),
+        (Event::Line, b),
         block,
-        (Step::Line, c),
+        (Event::Line, c),
         block,
         end,
     ];
-    for wanted in steps {
-        let step = lines.next(&mut reader, &mut line);
-        assert_eq!(rt; step, Ok(wanted.0));
+    for wanted in events {
+        let event = lines.next(&mut reader, &mut line);
+        assert_eq!(rt; event, Ok(wanted.0));
         assert_eq!(rt; line.as_slice(), wanted.1);
     }
 }
@@ -116,15 +165,13 @@ fn a_block_comes_before_each_read(rt: HostRuntime) {
 // The output that failed is named, and a closed one is no failure.
 #[test]
 fn ends_have_statuses(rt: HostRuntime) {
-    let full = "standard output: writing failed";
-    let unnamed = "standard error: writing failed";
     assert_eq!(rt; ending(&Ok(true)), (0, None));
     assert_eq!(rt; ending(&Ok(false)), (1, None));
     assert_eq!(rt; ending(&Err(Failure::Closed(true))), (0, None));
     assert_eq!(rt; ending(&Err(Failure::Closed(false))), (1, None));
     assert_eq!(rt; ending(&Err(Failure::Read)), (3, None));
-    assert_eq!(rt; ending(&Err(Failure::Write)), (3, Some(full)));
-    assert_eq!(rt; ending(&Err(Failure::Name)), (3, Some(unnamed)));
+    assert_eq!(rt; ending(&Err(Failure::Write)), (3, Some("standard output")));
+    assert_eq!(rt; ending(&Err(Failure::Name)), (3, Some("standard error")));
     assert_eq!(rt;
         ending(&Err(Failure::Resources)),
         (3, Some("out of memory"))
@@ -137,11 +184,11 @@ fn empty_lines(rt: &impl AllocGlobal, input: &[u8]) -> Result<u64, Failure> {
     let mut line = Vec::with_capacity(rt.alloc(), 101)?;
     let mut count = 0u64;
     for _ in 0..u64::MAX {
-        let step = lines.next(&mut reader, &mut line)?;
-        if step != Step::Block && line.is_empty() {
+        let event = lines.next(&mut reader, &mut line)?;
+        if event != Event::Block && line.is_empty() {
             count = count.saturating_add(1);
         }
-        if step == Step::End {
+        if event == Event::End {
             return Ok(count);
         }
     }

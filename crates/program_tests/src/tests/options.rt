@@ -1,9 +1,11 @@
 //! What the arguments of the programs ask for, and how files are picked of in turn.
 use crate::tests::Tested;
 use bumpalo::Bump;
-use jpick::{Layout, Query, Unasked, asked, pick_each};
-use jsonl::Failure;
-use simd_json_path::{Comparable, Comparison, PathError, PathExpected, Test};
+use jpick::{Hint, Layout, Query, Unasked, asked, pick_each, status_by_rows};
+use log_report::Selector;
+use log_report::Selector::Key;
+use programs::Failure;
+use simd_json_path::{Comparable, Comparison, Filter, Path, PathError, PathExpected, Test};
 use std::alloc::{AllocError, Global};
 
 // The words of a command line.
@@ -189,27 +191,93 @@ fn numbers_are_read(rt: HostRuntime) -> Tested {
     Ok(())
 }
 
-// Lines are counted by any key, and by any JSON Pointer that is not malformed.
+// Lines are counted by any key but one that looks like a path of jq or a JSONPath, and by any JSON
+// Pointer that is not malformed.
 #[test]
 fn selectors_are_read(rt: HostRuntime) -> Tested {
-    let rows: [(&str, bool); 11] = [
-        ("", true),
-        ("~", true),
-        ("a/~2", true),
-        ("/", true),
-        ("/~0", true),
-        ("/~01/~1", true),
-        ("/~", false),
-        ("/~2", false),
-        ("/~/0", false),
-        ("/a/~1~", false),
-        ("/~~0", false),
+    let escape = "expected 0 or 1 after each ~";
+    let path = "log_report counts by a key or a JSON Pointer: level, /level; --key takes any key";
+    let rows: [(&str, Result<Selector<'_>, &str>); 19] = [
+        ("", Ok(Key(""))),
+        ("~", Ok(Key("~"))),
+        ("a/~2", Ok(Key("a/~2"))),
+        ("a.b", Ok(Key("a.b"))),
+        ("[0]", Ok(Key("[0]"))),
+        ("@.a", Ok(Key("@.a"))),
+        ("/", Ok(Selector::Pointer("/"))),
+        ("/~0", Ok(Selector::Pointer("/~0"))),
+        ("/~01/~1", Ok(Selector::Pointer("/~01/~1"))),
+        ("/.a/$", Ok(Selector::Pointer("/.a/$"))),
+        ("/~", Err(escape)),
+        ("/~2", Err(escape)),
+        ("/~/0", Err(escape)),
+        ("/a/~1~", Err(escape)),
+        ("/~~0", Err(escape)),
+        (".a", Err(path)),
+        (".a.b", Err(path)),
+        ("$.a", Err(path)),
+        ("$", Err(path)),
     ];
-    for (selector, is_read) in rows {
+    for (selector, wanted) in rows {
         for arguments in [[selector, "--and", "a"], ["a", "--and", selector]] {
             let words = words(rt.alloc(), arguments.as_slice())?;
-            let options = log_report::asked(rt.alloc(), words.as_slice());
-            assert_eq!(rt; options.is_ok(), is_read);
+            match (log_report::asked(rt.alloc(), words.as_slice()), wanted) {
+                (Ok(options), Ok(wanted)) => {
+                    assert!(rt; options.wanted().selectors.contains(&wanted));
+                }
+                (Err(e), Err(reason)) => {
+                    let message = format!(in rt.alloc(); "{e}")?;
+                    let told = format!(in rt.alloc();
+                        "error: invalid value '{selector}' for '<KEY|POINTER>': {reason}\n"
+                    )?;
+                    assert!(rt; message.as_str().starts_with(told.as_str()));
+                }
+                _ => assert!(rt; false),
+            }
+        }
+    }
+    Ok(())
+}
+
+// What --key gives is a key, whatever it begins with; options are counted in their order, after the
+// first word. Where --key comes before that, it is a file.
+#[test]
+fn keys_are_read(rt: HostRuntime) -> Tested {
+    let rows: [(&[&str], &[Selector<'_>], &[&str]); 7] = [
+        (&["--key", ".a"], &[Key(".a")], &["-"]),
+        (&["--key", ".a", "f", "g"], &[Key(".a")], &["f", "g"]),
+        (&["--key=/a", "--key", "$"], &[Key("/a"), Key("$")], &["-"]),
+        (&["a", "--key", ".b", "f"], &[Key("a"), Key(".b")], &["f"]),
+        (
+            &["--and", "/b", "a", "--key", "c", "--and", "d", "--key=-e"],
+            &[
+                Key("a"),
+                Selector::Pointer("/b"),
+                Key("c"),
+                Key("d"),
+                Key("-e"),
+            ],
+            &["-"],
+        ),
+        (
+            &["--and", "b", "--key", "c", "f"],
+            &[Key("b"), Key("c")],
+            &["f"],
+        ),
+        (
+            &["--key", "c", "--key", "d", "f", "--and", "b"],
+            &[Key("c"), Key("d"), Key("b")],
+            &["f"],
+        ),
+    ];
+    for (arguments, selectors, files) in rows {
+        let words = words(rt.alloc(), arguments)?;
+        match log_report::asked(rt.alloc(), words.as_slice()) {
+            Ok(options) => {
+                assert_eq!(rt; options.wanted().selectors, selectors);
+                assert_eq!(rt; options.files(), files);
+            }
+            Err(_) => assert!(rt; false),
         }
     }
     Ok(())
@@ -342,31 +410,137 @@ fn wrong_places_are_named(rt: HostRuntime) -> Tested {
     Ok(())
 }
 
-// The frames of a path with `..` grow with the depth limit, and so does the stack of a filter with it.
+// What people write of other languages, and what is meant where it is no query.
 #[test]
-fn depths_have_a_bound(rt: HostRuntime) -> Tested {
-    let rows: [(&[&str], usize); 9] = [
-        (&["$..a"], 0),
-        (&["$.a", "--depth=1000000"], 0),
-        (&["/a..b", "--depth=1000000"], 0),
-        (&["$..a", "--depth=2000"], 2000),
-        (&["/a", "--and", "$.a..b", "--depth=1088"], 1088),
-        (&["$[?@..a]", "--depth=1088"], 0),
-        (&["$[?@..a]", "--depth=1089"], 1089),
-        (
-            &["/a", "--and", "$[?count(@..a) > 1]", "--depth=1089"],
-            1089,
-        ),
-        (&["", "--where", "@.a && $..b", "--depth=1089"], 1089),
+fn hints_are_given(rt: HostRuntime) -> Tested {
+    let rows: [(&str, Option<Hint>); 26] = [
+        ("@.a = 1", Some(Hint::Equal)),
+        ("@.a === 1", Some(Hint::Equal)),
+        ("@.a & @.b", Some(Hint::And)),
+        ("@.a and @.b", Some(Hint::And)),
+        ("@.a == 1 AND @.b", Some(Hint::And)),
+        ("@.a or @.b", Some(Hint::Or)),
+        ("@.a OR @.b", Some(Hint::Or)),
+        ("@.a | @.b", Some(Hint::Or)),
+        ("not @.a", Some(Hint::Not)),
+        ("NOT @.a", Some(Hint::Not)),
+        ("not(@.a)", Some(Hint::Not)),
+        ("@.a in [1, 2]", Some(Hint::In)),
+        ("'a' IN @.b", Some(Hint::In)),
+        ("@.a =~ /b/", Some(Hint::Pattern)),
+        ("@.a like 'b'", Some(Hint::Pattern)),
+        ("@.a LIKE 'b'", Some(Hint::Pattern)),
+        ("a == 1", Some(Hint::Name)),
+        ("nothing == 1", Some(Hint::Name)),
+        ("_a == 1", Some(Hint::Name)),
+        (".a == 1", Some(Hint::Name)),
+        ("/a == 1", Some(Hint::Name)),
+        ("@.a == b", Some(Hint::Name)),
+        ("!a", Some(Hint::Name)),
+        ("@.a-b == 1", Some(Hint::Quoted)),
+        ("@.a == ", None),
+        ("@.a == 1 }", None),
     ];
-    for (arguments, depth) in rows {
+    let arena = Bump::new(rt.alloc());
+    for (condition, wanted) in rows {
+        match Filter::new(&arena, condition) {
+            Err(e) => assert_eq!(rt; Hint::of(condition, e), wanted),
+            Ok(_) => assert!(rt; false),
+        }
+    }
+    let paths: [(&str, Option<Hint>); 7] = [
+        ("$.a-b", Some(Hint::Quoted)),
+        ("$.'a'", Some(Hint::Quoted)),
+        ("$a", Some(Hint::Root)),
+        ("$.a,$.b", Some(Hint::Further)),
+        ("$[?@.a = 1]", Some(Hint::Equal)),
+        ("$.a == 1", Some(Hint::Where)),
+        ("$.", None),
+    ];
+    for (path, wanted) in paths {
+        match Path::new(&arena, path) {
+            Err(e) => assert_eq!(rt; Hint::of(path, e), wanted),
+            Ok(_) => assert!(rt; false),
+        }
+    }
+    Ok(())
+}
+
+// Where lines are filtered, or values are printed over several lines, the query may be left out: the
+// first word is a file, if it is no query.
+#[test]
+fn queries_are_left_out(rt: HostRuntime) -> Tested {
+    let rows: [(&[&str], &[&str], &[&str]); 9] = [
+        (&["--pretty"], &[""], &["-"]),
+        (&["-d", "--pretty", "f"], &[""], &["f"]),
+        (&["--where", "@.a"], &[""], &["-"]),
+        (&["--where", "@.a", "f", "g"], &[""], &["f", "g"]),
+        (&["f", "--where", "@.a", "--and", "/b"], &["", "/b"], &["f"]),
+        (&["--where", "@.a", "/b", "f"], &["/b"], &["f"]),
+        (&["--where", "@.a", "$.b"], &["$.b"], &["-"]),
+        (&["", "--where", "@.a", "f"], &[""], &["f"]),
+        (&["/b", "f"], &["/b"], &["f"]),
+    ];
+    for (arguments, queries, files) in rows {
+        let words = words(rt.alloc(), arguments)?;
+        let arena = Bump::new(rt.alloc());
+        let Ok(options) = asked(rt.alloc(), &arena, words.as_slice()) else {
+            assert!(rt; false);
+            continue;
+        };
+        assert_eq!(rt; options.wanted().queries.len(), queries.len());
+        for (query, text) in options.wanted().queries.iter().zip(queries.iter()) {
+            assert_eq!(rt; query.text(), *text);
+        }
+        assert_eq!(rt; options.files(), files);
+    }
+    Ok(())
+}
+
+// With -e a line of which a query selects nothing has no row, and without a row the status is 1.
+#[test]
+fn rows_are_needed(rt: HostRuntime) -> Tested {
+    let rows: [(&[&str], bool); 3] = [
+        (&["-e", "/a"], true),
+        (&["/a", "--exit-status"], true),
+        (&["/a", "--all"], false),
+    ];
+    for (arguments, needs_rows) in rows {
         let words = words(rt.alloc(), arguments)?;
         let arena = Bump::new(rt.alloc());
         match asked(rt.alloc(), &arena, words.as_slice()) {
-            Ok(_) => assert_eq!(rt; depth, 0),
-            Err(Unasked::TooDeep(limit)) => assert_eq!(rt; limit, depth),
+            Ok(options) => {
+                assert!(rt; options.wanted().needs_all);
+                assert_eq!(rt; options.needs_rows(), needs_rows);
+            }
             Err(_) => assert!(rt; false),
         }
+    }
+    assert_eq!(rt;
+        [
+            status_by_rows(0, true, false),
+            status_by_rows(3, true, false),
+            status_by_rows(0, true, true),
+            status_by_rows(0, false, false),
+        ],
+        [1, 3, 0, 0]
+    );
+    Ok(())
+}
+
+// A query with `..` takes no more memory for a deeper document.
+#[test]
+fn any_depth_is_taken(rt: HostRuntime) -> Tested {
+    let rows: [&[&str]; 4] = [
+        &["$..a", "--depth=1000000"],
+        &["/a", "--and", "$.a..b", "--depth=1000000"],
+        &["$[?@..a]", "--depth=1000000"],
+        &["", "--where", "@.a && $..b", "--depth=1000000"],
+    ];
+    for arguments in rows {
+        let words = words(rt.alloc(), arguments)?;
+        let arena = Bump::new(rt.alloc());
+        assert!(rt; asked(rt.alloc(), &arena, words.as_slice()).is_ok());
     }
     Ok(())
 }

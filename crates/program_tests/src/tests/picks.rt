@@ -2,8 +2,8 @@
 use crate::tests::{Blocks, FAULTS, Full, Hungry, Tested, failing, in_blocks, many_lines};
 use bumpalo::Bump;
 use jpick::{Layout, Query, Wanted, run};
-use jsonl::{Channel, Failure};
 use linked_list_allocator::LocalHeap;
+use programs::{Channel, Failure};
 use simd_json_path::{Choice, Filter, Path, PathError, Segment, Selector};
 use std::alloc::Global;
 use std::io::ErrorKind;
@@ -15,6 +15,7 @@ fn wanted<'a>(queries: &'a [Query<'a>], layout: Layout) -> Wanted<'a> {
         filters: &[],
         layout,
         is_raw: false,
+        is_pretty: false,
         needs_all: false,
         is_quiet: false,
         longest: 10,
@@ -64,19 +65,19 @@ fn lines_are_picked_however_they_are_cut(rt: HostRuntime) {
         (
             b"{\"k\":1234}\n{\"k\":12345}\n{\"k\":1}",
             b"1234\n1\n",
-            b"f:2: longer than 10 bytes\n",
+            b"f:2: longer than 10 bytes (--longest)\n",
             false,
         ),
         (
             b"{\"k\":1}\n           \n{\"k\":123456789}",
             b"1\n",
-            b"f:2: longer than 10 bytes\nf:3: longer than 10 bytes\n",
+            b"f:2: longer than 10 bytes (--longest)\nf:3: longer than 10 bytes (--longest)\n",
             false,
         ),
         (
             b"[\"\\n\x01\"]\n[\xff",
             b"",
-            b"f:1:5: control character 1 in a string [Syntax]\n\
+            b"f:1:5: control character 1 in the string that begins at 1:2 [Syntax]\n\
                 f:2:2: byte 255 begins no UTF-8 character [InvalidUtf8]\n",
             false,
         ),
@@ -100,22 +101,22 @@ fn documents_are_hinted_at(rt: HostRuntime) -> Tested {
     let rows: [(&[u8], &str, &str); 5] = [
         (
             b"{\n \"k\":1}\n",
-            "f:1:1: the input ends after this, within the document [Syntax]\n",
+            "f:1:1: the input ends after this, within the object that begins at 1:1 [Syntax]\n",
             "f:2:5: more text after the document [TrailingData]\n",
         ),
         (
             b"[1,\n[2,\n",
-            "f:1:3: the input ends after this, within the document [Syntax]\n",
-            "f:2:3: the input ends after this, within the document [Syntax]\n",
+            "f:1:3: the input ends after this, within the array that begins at 1:1 [Syntax]\n",
+            "f:2:3: the input ends after this, within the array that begins at 2:1 [Syntax]\n",
         ),
         (
             b"\"\n[2,\n",
             "f:1:1: the string that begins here has no end [Syntax]\n",
-            "f:2:3: the input ends after this, within the document [Syntax]\n",
+            "f:2:3: the input ends after this, within the array that begins at 2:1 [Syntax]\n",
         ),
         (
             b"\n[2,",
-            "f:2:3: the input ends after this, within the document [Syntax]\n",
+            "f:2:3: the input ends after this, within the array that begins at 2:1 [Syntax]\n",
             "",
         ),
         (
@@ -154,7 +155,7 @@ fn documents_are_picked(rt: HostRuntime) {
         (
             b"[1,\n\n  2",
             b"",
-            b"f:3:3: the input ends after this, within the document [Syntax]\n",
+            b"f:3:3: the input ends after this, within the array that begins at 1:1 [Syntax]\n",
             false,
         ),
         (
@@ -293,6 +294,20 @@ fn query<'a>(arena: &'a Bump, text: &'a str) -> Result<Query<'a>, PathError> {
     Ok(Query::Pointer(text))
 }
 
+// Nine segments take more frames than are on the stack.
+#[test]
+fn paths_have_any_number_of_segments(rt: HostRuntime) -> Tested {
+    let arena = Bump::new(rt.alloc());
+    let queries = [query(&arena, "$[*][*][*][*][*][*][*][*][*]")?];
+    let mut wanted = wanted(queries.as_slice(), Layout::Tabs);
+    wanted.longest = 23;
+    let input = b"[[[[[[[[[1,[2]]]]]]]]]]\n[[3]]\n".as_slice();
+    let ran = run_by(rt.alloc(), &wanted, 16, input);
+    assert_eq!(rt; ran.result, Ok(true));
+    assert_eq!(rt; ran.rows.as_slice(), b"1\n[2]\n".as_slice());
+    Ok(())
+}
+
 // A path of segments by hand, which `Path::new` would read as steps, is singular too.
 #[test]
 fn paths_of_names_are_singular(rt: HostRuntime) {
@@ -347,6 +362,48 @@ fn filters_pass_lines_over(rt: HostRuntime) -> Tested {
     Ok(())
 }
 
+// A value over several lines: not a string as its text, nor the array of a path beside other cells.
+#[test]
+fn values_are_printed_over_lines(rt: HostRuntime) -> Tested {
+    let arena = Bump::new(rt.alloc());
+    let rows: [(&[Query<'_>], bool, &[u8], &[u8]); 4] = [
+        (
+            &[Query::Pointer("")],
+            false,
+            b"{\"k\":[1]}",
+            b"{\n  \"k\": [\n    1\n  ]\n}\n",
+        ),
+        (
+            &[query(&arena, "$.*")?],
+            false,
+            b"[[],{},[0]]",
+            b"[]\n{}\n[\n  0\n]\n",
+        ),
+        (
+            &[query(&arena, "$.*")?],
+            true,
+            b"[\"a\",[\"\"]]",
+            b"a\n[\n  \"\"\n]\n",
+        ),
+        (
+            &[query(&arena, "$.*")?, Query::Pointer("/0")],
+            false,
+            b"[[2],4]",
+            b"[[2],4]\t[\n  2\n]\n",
+        ),
+    ];
+    for (queries, is_raw, input, picked) in rows {
+        let mut wanted = wanted(queries, Layout::Tabs);
+        wanted.is_pretty = true;
+        wanted.is_raw = is_raw;
+        wanted.longest = 16;
+        let ran = run_by(rt.alloc(), &wanted, 16, input);
+        assert_eq!(rt; ran.result, Ok(true));
+        assert_eq!(rt; ran.rows.as_slice(), picked);
+    }
+    Ok(())
+}
+
 // A line is left out where one of the queries selects nothing.
 #[test]
 fn all_values_are_needed(rt: HostRuntime) {
@@ -363,7 +420,7 @@ const TWO_REJECTED: &[u8] = b"{\"k\":1}\n[1,]\n{\"k\":23}\n           ";
 const ROWS: &[u8] = b"1\n23\n";
 
 const REJECTIONS: &[u8] =
-    b"f:2:4: expected a value, found `]` [InternalError]\nf:4: longer than 10 bytes\n";
+    b"f:2:4: expected a value, found `]` [InternalError]\nf:4: longer than 10 bytes (--longest)\n";
 
 #[derive(Drop)]
 struct Stopped {

@@ -1,10 +1,7 @@
 use crate::tests::takes_all;
 use linked_list_allocator::LocalHeap;
 use simd_json_parts::node::{Node, StaticNode};
-use simd_json_print::document::{
-    Level, append_compact, append_compact_within, append_pretty, append_pretty_within,
-    append_quoted, put_compact_within, write_compact, write_pretty, write_quoted,
-};
+use simd_json_print::document::{Layout, Level, append, append_quoted, put, write, write_quoted};
 use simd_json_print::text::Text;
 use std::alloc::{AllocError, Global};
 use std::io::{self, ErrorKind, Write};
@@ -28,11 +25,12 @@ const PRETTY: &str = "{\n  \"k\\t\": [\n    0,\n    1E5,\n    \"\u{e9}\"\n  ],\n
 
 #[test]
 fn documents_are_appended(rt: HostRuntime) -> std::result::Result<(), Fail> {
+    let mut levels = Vec::new(rt.alloc());
     let mut compact = Vec::new(rt.alloc());
-    append_compact(&mut compact, &NODES)?;
+    append(&mut compact, &NODES, Layout::Compact, &mut levels)?;
     assert_eq!(rt; compact.as_slice(), COMPACT.as_bytes());
     let mut pretty = Vec::new(rt.alloc());
-    append_pretty(&mut pretty, &NODES)?;
+    append(&mut pretty, &NODES, Layout::Pretty, &mut levels)?;
     assert_eq!(rt; pretty.as_slice(), PRETTY.as_bytes());
     Ok(())
 }
@@ -57,9 +55,14 @@ fn long_and_empty_texts_are_written(rt: HostRuntime) -> std::result::Result<(), 
     ];
     for (nodes, len, front) in rows.iter() {
         let mut appended = Vec::new(rt.alloc());
-        append_compact(&mut appended, nodes)?;
+        append(
+            &mut appended,
+            nodes,
+            Layout::Compact,
+            &mut Vec::new(rt.alloc()),
+        )?;
         let mut written = Vec::new(rt.alloc());
-        write_compact(&mut written, nodes)?;
+        write(&mut written, nodes, Layout::Compact)?;
         assert_eq!(rt; appended.len(), *len);
         assert!(rt; appended.starts_with(front));
         assert_eq!(rt; appended.as_slice(), written.as_slice());
@@ -105,7 +108,7 @@ fn failing_writers_end_it(rt: HostRuntime) {
                 calls,
                 fails,
             };
-            let kind = write_compact(&mut writer, &NODES)
+            let kind = write(&mut writer, &NODES, Layout::Compact)
                 .err()
                 .map(|fault| fault.kind());
             let fault = if fails {
@@ -124,7 +127,7 @@ fn failing_writers_end_it(rt: HostRuntime) {
 #[test]
 fn pretty_text_is_written(rt: HostRuntime) -> std::result::Result<(), Fail> {
     let mut writer = Vec::new(rt.alloc());
-    write_pretty(&mut writer, &NODES)?;
+    write(&mut writer, &NODES, Layout::Pretty)?;
     assert_eq!(rt; writer.as_slice(), PRETTY.as_bytes());
     Ok(())
 }
@@ -149,7 +152,12 @@ fn deep_lines_begin_with_their_spaces(rt: HostRuntime) -> std::result::Result<()
             wanted.push(b']')?;
         }
         let mut pretty = Vec::new(rt.alloc());
-        append_pretty(&mut pretty, &nodes)?;
+        append(
+            &mut pretty,
+            &nodes,
+            Layout::Pretty,
+            &mut Vec::new(rt.alloc()),
+        )?;
         assert_eq!(rt; pretty.as_slice(), wanted.as_slice());
     }
     Ok(())
@@ -239,7 +247,7 @@ fn deep_values_take_little_of_the_stack(rt: HostRuntime) -> std::result::Result<
     for pairs in [31, 32, 33, 100, most] {
         let nodes = nested(rt.alloc(), pairs)?;
         let mut compact = Vec::new(rt.alloc());
-        append_compact(&mut compact, nodes.as_slice())?;
+        write(&mut compact, nodes.as_slice(), Layout::Compact)?;
         let wanted = nested_text(rt.alloc(), pairs)?;
         assert!(rt; compact.as_slice() == wanted.as_slice(), "{pairs} pairs");
     }
@@ -248,7 +256,7 @@ fn deep_values_take_little_of_the_stack(rt: HostRuntime) -> std::result::Result<
 
 // None, fewer and more than are open.
 #[test]
-fn lent_levels_change_no_text(rt: HostRuntime) -> std::result::Result<(), Fail> {
+fn the_text_is_the_same_with_any_levels(rt: HostRuntime) -> std::result::Result<(), Fail> {
     let nodes = nested(rt.alloc(), 100)?;
     let wanted = nested_text(rt.alloc(), 100)?;
     for len in [0, 1, 2, 63, 64, 65, 199, 200, 201] {
@@ -256,7 +264,12 @@ fn lent_levels_change_no_text(rt: HostRuntime) -> std::result::Result<(), Fail> 
         levels.resize(len, Level::EMPTY)?;
         let mut compact = Vec::new(rt.alloc());
         let mut text = Text::<_, 64>::new(&mut compact);
-        put_compact_within(&mut text, nodes.as_slice(), levels.as_mut_slice());
+        put(
+            &mut text,
+            nodes.as_slice(),
+            Layout::Compact,
+            levels.as_mut_slice(),
+        );
         text.finish()?;
         assert!(rt; compact.as_slice() == wanted.as_slice(), "{len} levels");
     }
@@ -282,7 +295,7 @@ fn levels_are_allocated_past_64(rt: HostRuntime) -> std::result::Result<(), Fail
         let mut levels = Vec::new(&heap);
         let mut compact = Vec::new(rt.alloc());
         compact.extend_from_slice(b" 1 ")?;
-        let appended = append_compact_within(&mut compact, nodes.as_slice(), &mut levels);
+        let appended = append(&mut compact, nodes.as_slice(), Layout::Compact, &mut levels);
         assert_eq!(rt; appended.is_ok(), suffices, "{pairs} pairs, {size} bytes");
         assert!(rt; pairs > 32 || heap.used() == 0, "{pairs} pairs");
         assert_eq!(rt; &compact[..3], b" 1 ".as_slice());
@@ -301,16 +314,16 @@ fn levels_are_kept(rt: HostRuntime) -> std::result::Result<(), Fail> {
     for pairs in [100, 32, 100, 40] {
         let nodes = nested(rt.alloc(), pairs)?;
         let mut written = Vec::new(rt.alloc());
-        write_pretty(&mut written, nodes.as_slice())?;
+        write(&mut written, nodes.as_slice(), Layout::Pretty)?;
         let mut pretty = Vec::new(rt.alloc());
-        append_pretty_within(&mut pretty, nodes.as_slice(), &mut levels)?;
+        append(&mut pretty, nodes.as_slice(), Layout::Pretty, &mut levels)?;
         assert!(rt; pretty.as_slice() == written.as_slice(), "{pairs} pairs");
         assert!(rt; levels.len() >= 200, "{} levels", levels.len());
     }
     let used = heap.used();
     let nodes = nested(rt.alloc(), 100)?;
     let mut again = Vec::new(rt.alloc());
-    append_compact_within(&mut again, nodes.as_slice(), &mut levels)?;
+    append(&mut again, nodes.as_slice(), Layout::Compact, &mut levels)?;
     assert_eq!(rt; heap.used(), used);
     Ok(())
 }

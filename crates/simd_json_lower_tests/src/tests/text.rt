@@ -1,5 +1,5 @@
 use simd_json_parts::node::{Node, StaticNode};
-use simd_json_print::document::{put_compact, put_pretty};
+use simd_json_print::document::{Layout, put};
 use simd_json_print::text::{Target, Text};
 use std::alloc::Global;
 use std::io::{self, ErrorKind, Write};
@@ -35,8 +35,8 @@ fn put_all<const SIZE: usize>(mut text: Text<'_, Vec<u8>, SIZE>, letters: usize)
         text.put(b"x");
     }
     put_strings(&mut text);
-    put_compact(&mut text, &NODES);
-    put_pretty(&mut text, &NODES);
+    put(&mut text, &NODES, Layout::Compact, &mut []);
+    put(&mut text, &NODES, Layout::Pretty, &mut []);
     text.finish()
 }
 

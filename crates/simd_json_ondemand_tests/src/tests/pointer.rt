@@ -1,7 +1,7 @@
 // JSON Pointers (RFC 6901), beside those of a tape.
 use super::MEMORY;
 use simd_json::{Tape, to_tape};
-use simd_json_ondemand::{Document, Expected, Found, Index, Pointer, ValueType};
+use simd_json_ondemand::{Document, Expected, Got, Index, Pointer, ValueType};
 
 // The document of RFC 6901, section 5, but for the array, which has integers.
 const SECTION_5: &[u8] = b"{\"foo\":[20,21],\"\":0,\"a/b\":1,\"c%d\":2,\"e^f\":3,\"g|h\":4,\
@@ -111,9 +111,9 @@ fn keys_with_escapes_are_named(rt: HostRuntime) {
     }
 }
 
-type Tried = Result<Option<u64>, (usize, Expected, Found)>;
+type Tried = Result<Option<u64>, (usize, Expected, Got)>;
 
-const UNSIGNED: Found = Found::Value(ValueType::U64);
+const UNSIGNED: Got = Got::Value(ValueType::U64);
 
 // An input, a pointer, and the integer that it names, or where the walk to it stops.
 const TRIED: &[(&[u8], &str, Tried)] = &[
@@ -144,7 +144,7 @@ const TRIED: &[(&[u8], &str, Tried)] = &[
         "/a/9/x",
         Err((8, Expected::CommaOrBracket, UNSIGNED)),
     ),
-    (b"{\"a\":[", "/a/0", Err((6, Expected::Value, Found::End))),
+    (b"{\"a\":[", "/a/0", Err((6, Expected::Value, Got::End))),
     (
         b"{\"a\":{\"b\" 1}}",
         "/a/b",
@@ -159,21 +159,17 @@ const TRIED: &[(&[u8], &str, Tried)] = &[
     (
         b"[{\"\\q\":1,\"/\":2,x}]",
         "/0/q",
-        Err((15, Expected::Key, Found::Other)),
+        Err((15, Expected::Key, Got::Other)),
     ),
-    (b"{", "/a", Err((1, Expected::Key, Found::End))),
+    (b"{", "/a", Err((1, Expected::Key, Got::End))),
     // a value that is no container is on the way
     (
         b"{\"a\":1}",
         "/a/b",
         Err((5, Expected::Container, UNSIGNED)),
     ),
-    (b"[x]", "/0", Err((1, Expected::Value, Found::Other))),
-    (
-        b"[tru]",
-        "/0/0",
-        Err((1, Expected::Container, Found::Other)),
-    ),
+    (b"[x]", "/0", Err((1, Expected::Value, Got::Other))),
+    (b"[tru]", "/0/0", Err((1, Expected::Container, Got::Other))),
 ];
 
 #[test]

@@ -1,12 +1,12 @@
 // Walks that stop, and where.
 use super::MEMORY;
 use super::check::DOCUMENTS;
-use simd_json_ondemand::{Checker, Document, Expected, Found, Index, Unexpected, Value, ValueType};
+use simd_json_ondemand::{Checker, Document, Expected, Got, Index, Unexpected, Value, ValueType};
 use std::process::Abort;
 
-type Tried = Result<Option<u64>, (usize, Expected, Found)>;
+type Tried = Result<Option<u64>, (usize, Expected, Got)>;
 
-const UNSIGNED: Found = Found::Value(ValueType::U64);
+const UNSIGNED: Got = Got::Value(ValueType::U64);
 
 // An input, a key, and the integer that it has, or where the search for it stops.
 const KEYS: &[(&[u8], &str, Tried)] = &[
@@ -16,30 +16,26 @@ const KEYS: &[(&[u8], &str, Tried)] = &[
     (
         b"{\"a\":1 \"b\":2}",
         "b",
-        Err((7, Expected::CommaOrBrace, Found::Value(ValueType::String))),
+        Err((7, Expected::CommaOrBrace, Got::Value(ValueType::String))),
     ),
     (b"{\"a\" 1}", "a", Err((5, Expected::Colon, UNSIGNED))),
-    (b"{\"a\":}", "a", Err((5, Expected::Value, Found::Other))),
+    (b"{\"a\":}", "a", Err((5, Expected::Value, Got::Other))),
     (
         b"{\"a\":x,\"b\":2}",
         "b",
-        Err((5, Expected::Value, Found::Other)),
+        Err((5, Expected::Value, Got::Other)),
     ),
-    (b"{\"a\":", "a", Err((5, Expected::Value, Found::End))),
-    (b"{\"a\"", "b", Err((4, Expected::Colon, Found::End))),
-    (b"{", "a", Err((1, Expected::Key, Found::End))),
-    (
-        b"{\"a\":1",
-        "b",
-        Err((6, Expected::CommaOrBrace, Found::End)),
-    ),
+    (b"{\"a\":", "a", Err((5, Expected::Value, Got::End))),
+    (b"{\"a\"", "b", Err((4, Expected::Colon, Got::End))),
+    (b"{", "a", Err((1, Expected::Key, Got::End))),
+    (b"{\"a\":1", "b", Err((6, Expected::CommaOrBrace, Got::End))),
     (
         b"{\"a\":1]",
         "b",
-        Err((6, Expected::CommaOrBrace, Found::Other)),
+        Err((6, Expected::CommaOrBrace, Got::Other)),
     ),
-    (b"{\"a\":1,}", "b", Err((7, Expected::Key, Found::Other))),
-    (b"{\"a\":1,", "b", Err((7, Expected::Key, Found::End))),
+    (b"{\"a\":1,}", "b", Err((7, Expected::Key, Got::Other))),
+    (b"{\"a\":1,", "b", Err((7, Expected::Key, Got::End))),
     (b"{1:2}", "1", Err((1, Expected::Key, UNSIGNED))),
     // what is nested in a value is passed over by its brackets
     (b"{\"a\":[1 {\"b\"}],\"b\":2}", "b", Ok(Some(2))),
@@ -51,7 +47,7 @@ const KEYS: &[(&[u8], &str, Tried)] = &[
         Err((
             0,
             Expected::Kind(ValueType::Object),
-            Found::Value(ValueType::Array),
+            Got::Value(ValueType::Array),
         )),
     ),
     (
@@ -62,7 +58,7 @@ const KEYS: &[(&[u8], &str, Tried)] = &[
     (
         b"x",
         "a",
-        Err((0, Expected::Kind(ValueType::Object), Found::Other)),
+        Err((0, Expected::Kind(ValueType::Object), Got::Other)),
     ),
     (
         b"{\"a\":-1}",
@@ -70,13 +66,13 @@ const KEYS: &[(&[u8], &str, Tried)] = &[
         Err((
             5,
             Expected::Kind(ValueType::U64),
-            Found::Value(ValueType::I64),
+            Got::Value(ValueType::I64),
         )),
     ),
     (
         b"{\"a\":tru}",
         "a",
-        Err((5, Expected::Kind(ValueType::U64), Found::Other)),
+        Err((5, Expected::Kind(ValueType::U64), Got::Other)),
     ),
 ];
 
@@ -88,17 +84,13 @@ const INDEXES: &[(&[u8], usize, Tried)] = &[
     (b"[1 2]", 0, Ok(Some(1))),
     (b"[1 2]", 1, Err((3, Expected::CommaOrBracket, UNSIGNED))),
     (b"[1,2", 1, Ok(Some(2))),
-    (b"[1,2", 2, Err((4, Expected::CommaOrBracket, Found::End))),
-    (
-        b"[1:2]",
-        1,
-        Err((2, Expected::CommaOrBracket, Found::Other)),
-    ),
-    (b"[1}", 1, Err((2, Expected::CommaOrBracket, Found::Other))),
-    (b"[1,]", 1, Err((3, Expected::Value, Found::Other))),
-    (b"[1,", 1, Err((3, Expected::Value, Found::End))),
-    (b"[,1]", 0, Err((1, Expected::Value, Found::Other))),
-    (b"[", 0, Err((1, Expected::Value, Found::End))),
+    (b"[1,2", 2, Err((4, Expected::CommaOrBracket, Got::End))),
+    (b"[1:2]", 1, Err((2, Expected::CommaOrBracket, Got::Other))),
+    (b"[1}", 1, Err((2, Expected::CommaOrBracket, Got::Other))),
+    (b"[1,]", 1, Err((3, Expected::Value, Got::Other))),
+    (b"[1,", 1, Err((3, Expected::Value, Got::End))),
+    (b"[,1]", 0, Err((1, Expected::Value, Got::Other))),
+    (b"[", 0, Err((1, Expected::Value, Got::End))),
     (
         b"[[1,2],{\"a\":3} 4]",
         2,
@@ -111,7 +103,7 @@ const INDEXES: &[(&[u8], usize, Tried)] = &[
         Err((
             0,
             Expected::Kind(ValueType::Array),
-            Found::Value(ValueType::Object),
+            Got::Value(ValueType::Object),
         )),
     ),
 ];

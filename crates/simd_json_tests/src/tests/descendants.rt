@@ -1,4 +1,4 @@
-// The iterator over a value and the values beneath it.
+// The iterators over a value and the values beneath it.
 use crate::tests::Tested;
 use simd_json::tape::Value;
 use simd_json::to_tape;
@@ -96,5 +96,27 @@ fn deep_nesting_is_passed_through(rt: HostRuntime) -> Tested {
     assert!(rt; passed.next().is_some());
     assert!(rt; passed.next().is_none());
     assert!(rt; passed.next().is_none());
+    Ok(())
+}
+
+const CONTAINERS: [&str; 5] = [
+    "{\"a\":[{},\"b\",[1]],\"c\":{\"d\":\"e\"}}",
+    "[{},\"b\",[1]]",
+    "{}",
+    "[1]",
+    "{\"d\":\"e\"}",
+];
+
+#[test]
+fn arrays_and_objects_are_in_the_order_of_the_document(rt: HostRuntime) -> Tested {
+    let mut input = *b"{\"a\":[{},\"b\",[1]],\"c\":{\"d\":\"e\"}}";
+    let tape = to_tape(rt.alloc(), &mut input)?;
+    assert!(rt; !tape.is_empty());
+    let value = tape.as_value();
+    assert_eq!(rt; value.containers().count(), 5);
+    for (container, text) in value.containers().zip(&CONTAINERS) {
+        assert_text(&rt, &container, text);
+    }
+    assert!(rt; Value::null().containers().next().is_none());
     Ok(())
 }

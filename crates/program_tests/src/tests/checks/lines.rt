@@ -1,11 +1,11 @@
 // Lines in blocks of each size, and readers and writers that fail.
 use super::{Form, MORE, OPEN, Report, VALUE, assert_stopped, assert_written, plain, text_of};
 use crate::tests::{Blocks, Tested};
-use jcheck::{Checker, Failure, check_lines, is_closed};
-use jsonl::Channel;
+use jcheck::{DocumentChecker, Failure, check_lines, is_closed};
+use programs::Channel;
 use std::io::ErrorKind;
 
-const LINES: [(&[u8], &[Report]); 5] = [
+const LINES: [(&[u8], &[Report]); 6] = [
     (b"", &[]),
     (b"1\n\n {} \r\n\"a\"\n", &[]),
     (
@@ -38,6 +38,26 @@ const LINES: [(&[u8], &[Report]); 5] = [
             ["f:2:3", MORE, "TrailingData at byte 14", "1 2", "  ^"],
         ],
     ),
+    // what is open begins in the same line of the file
+    (
+        b"[]\n[\"a\",\n{\"\t\"}",
+        &[
+            [
+                "f:2:5",
+                "the input ends after this, within the array that begins at 2:1",
+                "Syntax at byte 7",
+                "[\"a\",",
+                "    ^",
+            ],
+            [
+                "f:3:3",
+                "a tab in the string that begins at 3:2",
+                "Syntax at byte 11",
+                "{\" \"}",
+                "  ^",
+            ],
+        ],
+    ),
 ];
 
 // However the input is cut into blocks.
@@ -67,7 +87,7 @@ fn a_failed_read_ends_the_check(rt: HostRuntime) -> Tested {
         (7, &[first, third]),
     ] {
         for size in 1..8 {
-            let mut checker = Checker::new(rt.alloc(), 4);
+            let mut checker = DocumentChecker::new(rt.alloc(), 4);
             let mut reader = Channel::new(Blocks {
                 rest: &input[..len],
                 size,

@@ -157,7 +157,11 @@ fn the_encoding_comes_before_memory(rt: HostRuntime) -> Tested {
 #[test]
 fn characters_across_windows_are_read(rt: HostRuntime) -> Tested {
     for character in ["\u{e9}", "\u{20ac}", "\u{1f600}"] {
-        for at in 8186..8194usize {
+        for at in (506..514usize)
+            .chain(7674..7682)
+            .chain(8186..8194)
+            .chain(8698..8706)
+        {
             let head = text(rt.alloc(), b"\"", b'a', at, character.as_bytes())?;
             let text = text(rt.alloc(), &head, b'a', 9000, b"\"")?;
             let mut positions = Vec::new(rt.alloc());
@@ -179,6 +183,45 @@ fn characters_across_windows_are_read(rt: HostRuntime) -> Tested {
                 );
                 assert_eq!(rt; answer, Err(Error::generic(ErrorType::InvalidUtf8)));
                 cut.clear();
+            }
+        }
+    }
+    Ok(())
+}
+
+// The encoding of each group of 512 bytes is tested, whether others are ASCII or not.
+#[test]
+fn each_group_is_tested(rt: HostRuntime) -> Tested {
+    let (mut positions, mut blocks) = (Vec::new(rt.alloc()), Vec::new(rt.alloc()));
+    positions.resize(20_000, 0)?;
+    blocks.resize(400, 0)?;
+    for group in 0..34usize {
+        for (other, character) in [
+            (0usize, ""),
+            (3, "\u{e9}"),
+            (17, "\u{20ac}"),
+            (33, "\u{e9}"),
+        ] {
+            let mut text = text(rt.alloc(), b"\"", b'a', 18_000, b"\"")?;
+            for (place, byte) in text[512 * other + 200..].iter_mut().zip(character.bytes()) {
+                *place = byte;
+            }
+            let answer = BlockStage1Parse::find_structural_bits(&text, &mut positions, &mut blocks);
+            assert!(rt; answer.is_ok(), "{other}");
+            for at in [1usize, 63, 300, 511] {
+                let was = text[512 * group + at];
+                text[512 * group + at] = 0x80;
+                let answer = BlockStage1Parse::find_structural_bits(
+                    &text,
+                    &mut positions,
+                    &mut blocks,
+                );
+                assert_eq!(rt;
+                    answer,
+                    Err(Error::generic(ErrorType::InvalidUtf8)),
+                    "{group} {other} {at}"
+                );
+                text[512 * group + at] = was;
             }
         }
     }

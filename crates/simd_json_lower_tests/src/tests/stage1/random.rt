@@ -110,5 +110,8 @@ fn agrees_on_long_strings(rt: HostRuntime) -> Tested {
     let mut bytes = [b'a'; 600];
     bytes[..6].copy_from_slice(b"\"\\,{ 1");
     let texts = if takes_all(&rt) { 100 } else { 20 };
-    agree(&rt, 0x1357_9bdf_0246_8ace, texts, 20_000, &bytes)
+    agree(&rt, 0x1357_9bdf_0246_8ace, texts, 20_000, &bytes)?;
+    let mut bytes = [b'a'; 4000];
+    bytes[..8].copy_from_slice(b"\"\"\"\"\\,{ ");
+    agree(&rt, 0x8ace_0246_9bdf_1357, texts, 40_000, &bytes)
 }

@@ -210,3 +210,33 @@ fn strings_end_at_every_offset(rt: HostRuntime) -> std::result::Result<(), Fail>
     }
     Ok(())
 }
+
+// A run of letters of which those next to each other differ.
+fn push_letters(bytes: &mut Vec<u8>, count: usize) -> std::result::Result<(), Fail> {
+    for letter in (b'a'..=b'z').cycle().take(count) {
+        bytes.push(letter)?;
+    }
+    Ok(())
+}
+
+// Runs of up to 70 bytes, moved down by as much as each kind of escape leaves free.
+#[test]
+fn runs_between_escapes_are_moved(rt: HostRuntime) -> std::result::Result<(), Fail> {
+    for escape in &["\\n", "\\u00e9", "\\u20ac", "\\ud83d\\ude00"] {
+        for first in &[0usize, 20, 31, 32, 33] {
+            for run in 0..=70usize {
+                let mut bytes = Vec::new(rt.alloc());
+                bytes.push(b'"')?;
+                push_letters(&mut bytes, *first)?;
+                for _ in 0..3 {
+                    bytes.extend_from_slice(escape.as_bytes())?;
+                    push_letters(&mut bytes, run)?;
+                }
+                bytes.push(b'"')?;
+                push_letters(&mut bytes, *first)?;
+                assert!(rt; agrees(&rt, &mut bytes)?, "{escape} {first} {run}");
+            }
+        }
+    }
+    Ok(())
+}
