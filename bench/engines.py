@@ -1,7 +1,7 @@
 #!/usr/bin/python3
 """Times `jtape lines` over 64 MB of log lines by one process, by four of GNU parallel and by two workers of Dask, and each
 engine with `cat` in the program's place, which shows what the engine itself costs. Prints a table of the
-shortest time and the least processor time of ROUNDS runs; docs/LINES.md has the times.
+shortest time and the least processor time of ROUNDS runs; docs/PROGRAMS.md has the times.
 
 usage: python3 bench/engines.py [ROUNDS]        after `make`; Debian's packages parallel and python3-distributed
 """

@@ -13,10 +13,11 @@ int main(void) {
         status = simd_json_parser_parse(&parser, input, strlen(input), &d, &place);
     if (status == SIMD_JSON_OK) {
         size_t at = simd_json_pointer(d.nodes, d.nodes_len, d.text, d.text_len, 0, "/the_answer", 11);
-        if (at != SIMD_JSON_NO_NODE && d.nodes[at].kind == SIMD_JSON_U64)
-            printf("%llu\n", (unsigned long long)d.nodes[at].value);
+        int64_t answer;
+        if (simd_json_int64(d.nodes, d.nodes_len, at, &answer) == SIMD_JSON_OK)
+            printf("%lld\n", (long long)answer);
     } else {
-        fprintf(stderr, "rejected: status %d at byte %zu\n", status, place.index);
+        fprintf(stderr, "rejected: %s at byte %zu\n", simd_json_status_text(status), place.index);
     }
     simd_json_close(&parser);
     return status != SIMD_JSON_OK;

@@ -26,11 +26,11 @@ static int print_line(simd_json_parser *parser, struct line *line, size_t len, c
     memcpy(line->copy, line->text, len);
     int32_t status = simd_json_parser_parse(parser, line->copy, len, &d, &place);
     if (status != SIMD_JSON_OK) {
-        simd_json_position at = {0, 0, 0};
+        simd_json_position at = {0, 0, 0, 0};
         char reason[SIMD_JSON_REASON_MAX];
         size_t reason_len = 0;
-        simd_json_location(line->text, len, status, &place, &at, reason, sizeof reason, &reason_len);
-        printf("%s:%zu:%zu: %.*s\n", name, number, at.column, (int)reason_len, reason);
+        simd_json_location(line->text, len, number, status, &place, &at, reason, sizeof reason, &reason_len);
+        printf("%s:%zu:%zu: %.*s\n", name, at.line, at.column, (int)reason_len, reason);
         return 0;
     }
     const simd_json_node *code = find(&d, "/status", SIMD_JSON_U64), *path = find(&d, "/path", SIMD_JSON_STRING);

@@ -15,9 +15,9 @@ int main(int argc, char **argv) {
     bool is_right = true;
     for (size_t number = 1; std::getline(file, line); number++) {
         try {
-            const auto root = parser.parse(std::string_view(line)); // a copy, so that an error has its column
-            const auto status = root["status"].as_uint64().value(); // both before anything is printed
-            const auto path = root["path"].as_string().value();
+            const auto root = parser.parse(line);
+            const auto status = root["status"].as<unsigned>(); // both before anything is printed
+            const auto path = root["path"].as<std::string_view>();
             std::cout << status << ' ' << path << '\n';
             continue;
         } catch (const simd_json::error &e) {
