@@ -31,13 +31,14 @@ done
 
 SIMD_JSON_LIB_DIR=$v2 SIMD_JSON_V3_LIB_DIR=$v3 python3 -B python/backend.py "$to/python" > /dev/null
 cp -R bindings/rust/Cargo.toml bindings/rust/README.md bindings/rust/build.rs bindings/rust/src "$to/rust/"
-cp LICENSE-MIT LICENSE-APACHE "$to/"
-mkdir -p "$to/examples/c" "$to/examples/log"
+cp LICENSE-MIT LICENSE-APACHE CHANGELOG.md SECURITY.md "$to/"
+mkdir -p "$to/docs" "$to/examples/c" "$to/examples/log"
+cp docs/READING.md docs/PROGRAMS.md "$to/docs/"
 cp examples/c/answer.c "$to/examples/c/"
 for file in log.c log.cpp log.py log.rs Cargo.toml log.jsonl; do cp "examples/log/$file" "$to/examples/log/"; done
-{ printf '# simd_json %s\n' "$version" && sed -n '/^### From the release/,/^### /{/^### /d;p;}' README.md; } > "$to/README.md"
+{ printf '# simd_json %s\n' "$version" && sed -n '/^## From the release/,/^## /{/^## /d;p;}' docs/INSTALL.md | sed 's|(\.\./|(|g'; } > "$to/README.md"
 
 (cd "$to" && find . -type f | LC_ALL=C sort | xargs sha256sum) > "$parts/SHA256SUMS"
 mv "$parts/SHA256SUMS" "$to/"
 tar -C build --sort=name --owner=0 --group=0 --numeric-owner --mtime=2026-01-01T00:00Z -c "$name" | gzip -9n > "$to.tar.gz"
-sha256sum "$to.tar.gz"
+(cd build && sha256sum "$name.tar.gz" | tee SHA256SUMS)
