@@ -1,5 +1,5 @@
-//! The values of JSON Lines. [`Records`] parses the texts of lines, one after another, in memory that
-//! is reserved once: each is a [`Record`].
+//! The values of JSON Lines. [`Records`] parses the texts of lines, one after another, in memory
+//! that is reserved once: each is a [`Record`].
 #![tactic(auto)]
 
 mod records;

@@ -1,6 +1,6 @@
 //! `log_report [OPTION].. KEY|POINTER [FILE..]` counts the lines of JSON Lines by their values at
-//! keys or JSON Pointers, in memory that does not depend on how many there are. docs/PROGRAMS.md says
-//! what it prints. The library `log_report` counts; here are files and the status.
+//! keys or JSON Pointers, in memory that does not depend on how many there are. docs/PROGRAMS.md
+//! says what it prints. The library `log_report` counts; here are files and the status.
 #![tactic(auto)]
 
 mod lenient;

@@ -4,8 +4,8 @@ use std::io;
 use std::io::{ErrorKind, Read, Write};
 use std::marker::Model;
 
-/// A reader or a writer that records whether a call on it failed, and why, whether who reads what it
-/// writes has closed it, and whether it ended. Only its own calls set what
+/// A reader or a writer that records whether a call on it failed, and why, whether who reads what
+/// it writes has closed it, and whether it ended. Only its own calls set what
 /// [`failed`](Channel::failed), [`fault`](Channel::fault), [`closed`](Channel::closed) and
 /// [`ended`](Channel::ended) return. Text is written to it as to any [`Target`].
 ///

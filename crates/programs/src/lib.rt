@@ -4,12 +4,13 @@
 //! - [`Channel`]: a reader or a writer that records why a call on it failed, and whether it ended.
 //!   [`Source`]: a file or standard input, which records why it can't be read. [`Retrying`]: a
 //!   writer. Both try again what a signal interrupts. [`read_all`]: all bytes of a reader.
-//! - [`Lines`]: cuts what a reader gives into lines, in memory that does not depend on their number.
-//! - [`shown`]: a text without control characters. [`tsv_escape`]: what is written for a byte in tab
-//!   separated text.
-//! - [`rejection_words`]: names a rejected text; [`put_name`] writes that after the name of its file.
-//! - [`Failure`]: why a run ended before the end of its input. [`ending`]: the exit status, and what
-//!   failed; [`print_ending`] says so, and why.
+//! - [`Lines`]: cuts what a reader gives into lines, in memory that does not depend on
+//!   how many there are.
+//! - [`shown`]: a text without control characters. [`tsv_escape`]: what is written for a byte in
+//!   tab separated text.
+//! - [`rejection_words`]: names a rejected text; [`put_name`] writes that after its file's name.
+//! - [`Failure`]: why a run ended before the end of its input. [`ending`]: the exit status, and
+//!   what failed; [`print_ending`] says so, and why.
 //! - [`arguments`]: the words of the command line. [`words_status`], [`fault_status`],
 //!   [`help_status`]: the exit status without them, where they are rejected, and after help.
 //! - [`check_digits`], [`has_digits_alone`]: whether a number has digits alone. [`invalid_value`]:

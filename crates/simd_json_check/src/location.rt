@@ -95,8 +95,8 @@ impl Location {
         &self.error
     }
 
-    /// What prints the kind of the error as people are shown it. A parse has two for more text after
-    /// the document, by what its root is; both print as `TrailingData`.
+    /// What prints the kind of the error as people are shown it. A parse has two for more text
+    /// after the document, by what its root is; both print as `TrailingData`.
     pub fn kind(&self) -> ShownKind<'_>
         ensures { result.location.now ≡ self.now }
     {

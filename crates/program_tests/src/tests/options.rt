@@ -466,8 +466,8 @@ fn hints_are_given(rt: HostRuntime) -> Tested {
     Ok(())
 }
 
-// Where lines are filtered, or values are printed over several lines, the query may be left out: the
-// first word is a file, if it is no query.
+// Where lines are filtered, or values are printed over several lines, the query may be left out:
+// the first word is a file, if it is no query.
 #[test]
 fn queries_are_left_out(rt: HostRuntime) -> Tested {
     let rows: [(&[&str], &[&str], &[&str]); 9] = [
