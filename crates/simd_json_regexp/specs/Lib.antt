@@ -1,0 +1,9 @@
+pub mod Regexps
+pub mod Searches
+pub mod Marks
+pub mod Items
+pub mod Nodes
+pub mod Characters
+pub mod Patterns
+pub mod Written
+pub mod Readings
