@@ -1,7 +1,9 @@
 -- The grammar of a filter's test (RFC 9535, section 2.3.5.1): which text is which logical expression.
 use Rattle.std.specs.Prelude.{ℕ, zero, suc, List, ◌++◌, ◌≡◌, ◌≤◌, Bool, true, false, codes, length}
+use Rattle.std.specs.Str.{chars}
+use Rattle.simd_json_parts.specs.Bytes.{comma}
 use Rattle.simd_json_parts.specs.Numbers.{number_literal}
-use Rattle.simd_json_parts.specs.Patterns.{Matches}
+use Rattle.simd_json_parts.specs.Patterns as literals
 use Rattle.simd_json_query.specs.Choices.{ChoiceText}
 use Rattle.simd_json_query.specs.Segments.{Segments, SegmentText}
 use Rattle.simd_json_query.specs.Steps.{Blanks, StringText, Steps, dollar}
@@ -12,12 +14,17 @@ use Rattle.simd_json_query.specs.declared.filter.Comparison.{Comparison}
 use Rattle.simd_json_query.specs.declared.filter.Comparison.TheVariants as comparison
 use Rattle.simd_json_query.specs.declared.filter.Literal.{Literal}
 use Rattle.simd_json_query.specs.declared.filter.Literal.TheVariants as literal
+use Rattle.simd_json_query.specs.declared.filter.Matcher.{Matcher}
+use Rattle.simd_json_query.specs.declared.filter.Matcher.TheVariants as matcher
 use Rattle.simd_json_query.specs.declared.filter.Query.{Query}
 use Rattle.simd_json_query.specs.declared.filter.SingularQuery.{SingularQuery}
 use Rattle.simd_json_query.specs.declared.filter.SingularQuery.TheVariants as query
 use Rattle.simd_json_query.specs.declared.query.Choice.{Choice}
+use Rattle.simd_json_regexp.specs.Patterns.{max_nodes, pattern_of, pattern_within}
+use Rattle.simd_json_regexp.specs.Readings.{IsLiteral}
+use Rattle.simd_json_regexp.specs.declared.pattern.Pattern.{Pattern}
 use Rattle.simd_json_query.specs.declared.query.Segment.{Segment}
-use Rattle.simd_json_query.specs.declared.filter.Test.{Test, Exists, Compare, Not', And', Or'}
+use Rattle.simd_json_query.specs.declared.filter.Test.{Test, Exists, Compare, Matches, Not', And', Or'}
 
 -- ---- characters
 
@@ -40,7 +47,7 @@ Word cs text rest = text ≡ cs ++ rest
 -- ---- literals
 
 abbrev pub NumberText : List ℕ → List ℕ → List ℕ → Type 0
-NumberText number text rest = (text ≡ number ++ rest) × Matches number_literal number
+NumberText number text rest = (text ≡ number ++ rest) × literals.Matches number_literal number
 
 abbrev pub LiteralText : Literal → List ℕ → List ℕ → Type 0
 LiteralText literal.Null = Word (codes "null")
@@ -95,17 +102,43 @@ OperatorText comparison.LessOrEqual = Word (codes "<=")
 OperatorText comparison.Greater = Word (codes ">")
 OperatorText comparison.GreaterOrEqual = Word (codes ">=")
 
+-- ---- `match` (section 2.4.6) and `search` (section 2.4.7)
+
+abbrev pub IsPatternOf : Bool → Pattern → List ℕ → Type 0
+IsPatternOf false p string = IsLiteral p (pattern_of max_nodes (chars string))
+IsPatternOf true p string = IsLiteral p (pattern_within max_nodes (chars string))
+
+abbrev pub LiteralPattern : Bool → Pattern → List ℕ → List ℕ → Type 0
+LiteralPattern is_search p text rest = (string : List ℕ) × StringText string text rest × IsPatternOf is_search p string
+
+abbrev pub MatcherText : Bool → Matcher → List ℕ → List ℕ → Type 0
+MatcherText is_search (matcher.Literal p) = LiteralPattern is_search p
+MatcherText false (matcher.Match c) = ComparableText c
+MatcherText true (matcher.Search c) = ComparableText c
+MatcherText _ _ = Nothing
+
+-- the arguments and the `)`
+abbrev pub Arguments : Bool → Comparable → Matcher → List ℕ → List ℕ → Type 0
+Arguments is_search c m =
+    Blanks then ComparableText c then Blanks then Mark comma then Blanks then MatcherText is_search m
+    then Blanks then Mark right_parenthesis
+
+abbrev pub MatchesText : Comparable → Matcher → List ℕ → List ℕ → Type 0
+MatchesText c m = Word (codes "match(") then Arguments false c m or Word (codes "search(") then Arguments true c m
+
 -- ---- tests, where a part is one in parentheses
 
 -- what may follow `!`
 abbrev pub Denied : (Test → List ℕ → List ℕ → Type 0) → Test → List ℕ → List ℕ → Type 0
 Denied Enclosed (Exists q) = QueryText q or Enclosed (Exists q)
+Denied Enclosed (Matches c m) = MatchesText c m or Enclosed (Matches c m)
 Denied Enclosed t = Enclosed t
 
 abbrev pub Basic : (Test → List ℕ → List ℕ → Type 0) → Test → List ℕ → List ℕ → Type 0
 Basic Enclosed (Exists q) = QueryText q or Enclosed (Exists q)
 Basic Enclosed (Compare a op b) =
     ComparableText a then Blanks then OperatorText op then Blanks then ComparableText b or Enclosed (Compare a op b)
+Basic Enclosed (Matches c m) = MatchesText c m or Enclosed (Matches c m)
 Basic Enclosed (Not' p t) = Mark exclamation_mark then Blanks then Denied Enclosed t or Enclosed (Not' p t)
 Basic Enclosed t = Enclosed t
 

@@ -1,5 +1,6 @@
 //! Filters (RFC 9535, section 2.3.5): tests of a node.
 use crate::query::{Choice, Segment};
+use simd_json_regexp::Pattern;
 
 /// A step from a node to one of its children: a segment of one name or one index.
 #[derive(Clone, Copy, Debug)]
@@ -75,6 +76,18 @@ pub enum Comparison {
     GreaterOrEqual,
 }
 
+/// The second argument of `match` or `search`: a regular expression (RFC 9485).
+#[derive(Clone, Copy)]
+pub enum Matcher<'path> {
+    /// A literal that was read: what matches it as a whole matches, or in a call of `search` is
+    /// found. A literal that is no pattern is the one that matches nothing.
+    Literal(Pattern<'path>),
+    /// In a call of `match` (section 2.4.6) a value, which is read for each node.
+    Match(Comparable<'path>),
+    /// In a call of `search` (section 2.4.7) a value, which is read for each node.
+    Search(Comparable<'path>),
+}
+
 /// A test of a node: a logical expression (section 2.3.5.1).
 ///
 /// Of `a && b && c` the right operand is `b && c`, and so with `||`: what evaluates a test can go
@@ -85,6 +98,8 @@ pub enum Test<'path> {
     Exists(Query<'path>),
     /// A comparison of two values.
     Compare(Comparable<'path>, Comparison, Comparable<'path>),
+    /// A string that a regular expression matches: `match` or `search`.
+    Matches(Comparable<'path>, Matcher<'path>),
     /// The test fails.
     Not(&'path Test<'path>),
     /// Both pass.

@@ -7,7 +7,7 @@
 //! | the queries of filters | those that hold no filter |
 //! | `length` (2.4.4) | of a singular query, a literal or a call |
 //! | `count` (2.4.5), `value` (2.4.8) | of a query |
-//! | `match` (2.4.6), `search` (2.4.7) | rejected |
+//! | `match` (2.4.6), `search` (2.4.7) | of what is compared; literals within the limits of [`Pattern`] |
 //!
 //! Parentheses and calls of `length` may be nested 100 deep, and a filter's query may have 100
 //! segments beside those of one name or one index.
@@ -17,6 +17,7 @@ mod filter;
 mod query;
 mod text;
 
-pub use filter::{Comparable, Comparison, Literal, Query, SingularQuery, Step, Test};
+pub use filter::{Comparable, Comparison, Literal, Matcher, Query, SingularQuery, Step, Test};
 pub use query::{Choice, Segment, Selector, Slice};
+pub use simd_json_regexp::Pattern;
 pub use text::{PathError, PathExpected, QueryParts, read, read_filter};

@@ -17,6 +17,7 @@ mod integers;
 mod literals;
 mod names;
 mod openings;
+mod patterns;
 mod plain;
 mod queries;
 mod segments;
@@ -67,8 +68,10 @@ pub enum PathExpected {
     WithoutFilter,
     /// Fewer segments in a filter's query: at most 100 of more than a name or an index.
     FewerSegments,
-    /// A test without `match` or `search`: regular expressions are not supported.
-    WithoutPattern,
+    /// `,` after the first argument of `match` or `search`.
+    Comma,
+    /// A smaller pattern: one of at most 512 characters, as often as they are repeated.
+    SmallerPattern,
     /// A number, as JSON spells it.
     Number,
     /// `)`.
@@ -102,7 +105,8 @@ impl fmt::Display for PathExpected {
             PathExpected::SingularQuery => "a query of at most one node",
             PathExpected::WithoutFilter => "a selector that is no filter",
             PathExpected::FewerSegments => "at most 100 segments",
-            PathExpected::WithoutPattern => "a test without match or search",
+            PathExpected::Comma => ",",
+            PathExpected::SmallerPattern => "a smaller pattern",
             PathExpected::Number => "a number",
             PathExpected::Parenthesis => ")",
             PathExpected::LessNesting => "at most 100 nested parentheses",
@@ -149,7 +153,7 @@ const MAX_SEGMENTS: usize = 100;
 ///
 /// Returns where the text is no query, and what it lacks there, or `Memory` where an allocation
 /// fails. Queries in filters hold no filter and at most 100 segments of more than a name or an
-/// index; `match` and `search` are not read. A compared query may have blanks in brackets too.
+/// index. A compared query may have blanks in brackets too.
 pub fn read<'path, A: Allocator>(
     arena: &'path Bump<A>,
     text: &str,

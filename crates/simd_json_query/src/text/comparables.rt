@@ -47,7 +47,7 @@ pub(super) fn comparable<'path, 't, A: Allocator>(
     if let Some((literal, others)) = literal(arena, rest)? {
         return Ok((Comparable::Literal(literal), others));
     }
-    Err(Stop::at(rest, without_pattern(rest, expected)))
+    Err(Stop::at(rest, expected))
 }
 
 // A query and the `)` of a call.
@@ -76,12 +76,4 @@ pub(super) fn closed(rest: &str) -> Result<&str, Stop>
         Some(others) => Ok(others),
         None => Err(Stop::at(end, PathExpected::Parenthesis)),
     }
-}
-
-// What the text lacks where nothing that is compared is there.
-pub(super) fn without_pattern(rest: &str, expected: PathExpected) -> PathExpected {
-    if word(rest, "match(").is_some() || word(rest, "search(").is_some() {
-        return PathExpected::WithoutPattern;
-    }
-    expected
 }

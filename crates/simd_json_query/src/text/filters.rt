@@ -6,9 +6,10 @@ ghost use Rattle.simd_json_query.specs.Spans.{Mark};
 
 use crate::filter::Test;
 use crate::text::PathExpected;
-use crate::text::comparables::{closed, without_pattern};
+use crate::text::comparables::closed;
 use crate::text::comparisons::compared;
 use crate::text::cursor::{Stop, after, skip_blanks, word};
+use crate::text::patterns::matches;
 use crate::text::queries::query;
 use bumpalo::Bump;
 use std::alloc::Allocator;
@@ -107,10 +108,13 @@ fn basic<'path, 't, A: Allocator>(
     if let Some(others) = after(rest, '(') {
         return nested(arena, rest, others, nesting);
     }
+    if let Some((text, matcher, behind)) = matches(arena, rest, nesting)? {
+        return Ok((Test::Matches(text, matcher), behind));
+    }
     compared(arena, rest, nesting)
 }
 
-// What is denied by a `!`: a query, or a test in parentheses.
+// What is denied by a `!`: a query, a match, or a test in parentheses.
 #[cycle(tests)]
 fn denied<'path, 't, A: Allocator>(
     arena: &'path Bump<A>,
@@ -123,9 +127,12 @@ fn denied<'path, 't, A: Allocator>(
     if let Some(others) = after(rest, '(') {
         return nested(arena, rest, others, nesting);
     }
+    if let Some((text, matcher, others)) = matches(arena, rest, nesting)? {
+        return Ok((Test::Matches(text, matcher), others));
+    }
     match query(arena, rest)? {
         Some((query, others)) => Ok((Test::Exists(query), others)),
-        None => Err(Stop::at(rest, without_pattern(rest, PathExpected::Denied))),
+        None => Err(Stop::at(rest, PathExpected::Denied)),
     }
 }
 
