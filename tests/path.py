@@ -5,13 +5,16 @@
 A document is None, True, False, a Number, a str, a list, or a dict; a query is a list of segments.
 """
 import random
+import re
 import sys
+import unicodedata
 from fractions import Fraction
 
 NOTHING = object()
 NAMES = ["a", "b", "c", "a b", "é", "☺", "'", '"', "\\", "", "0", "aa", "𝄞"]
 NUMBERS = ["0", "-0", "1", "2", "10", "-1", "1.0", "1e0", "10e-1", "0.1", "1E1", "-1.50", "2.5e-1", "9007199254740993", "18446744073709551616", "0.0"]
 STRINGS = ["", "a", "b", "aa", "é", "☺", "𝄞", "a b", "1", "'", '"', "\\"]
+PATTERNS = [".", "[ab]*", "a|é", "("]
 OPERATORS = ["==", "!=", "<", "<=", ">", ">="]
 
 
@@ -26,7 +29,7 @@ def document(depth, least=0):
     if kind < 2:
         return Number(random.choice(NUMBERS))
     if kind < 4:
-        return random.choice(STRINGS)
+        return random.choice(STRINGS + PATTERNS)
     if kind == 4:
         return random.choice([None, True, False])
     some = range(random.choice([0, 2, 3, 3, 4, 5]))
@@ -125,6 +128,49 @@ def less(left, right):
     return strings and left < right
 
 
+# ---- regular expressions (sections 2.4.6 and 2.4.7, RFC 9485), by those of Python
+
+CHARACTERS = sorted(set("".join(STRINGS + PATTERNS + NAMES)))
+ATOMS = ["a", "b", "é", "☺", "𝄞", "1", ".", "^", "$", "-", "[ab]", "[^a]", "[a-c]", "[^é-☺]", "[-1]", "[b-]", "\\.", "\\\\", "\\n",
+         "\\p{L}", "\\P{Ll}", "\\p{N}", "[\\p{So}b]", "[^\\P{L}]"]
+BROKEN = ["[", "[]", "[^]", "(", ")", "a{2,1}", "|*", "a**", "a{", "}", "\\d", "\\p{X}", "[b-a]", "[a--]"]
+no_patterns = {"\\", "("}
+
+
+def pattern(depth):
+    def piece():
+        atom = "(" + pattern(depth - 1) + ")" if depth and random.random() < 0.3 else random.choice(ATOMS)
+        return atom + random.choice(["", "", "", "*", "+", "?", "{2}", "{1,}", "{0,2}"])
+    return "|".join("".join(piece() for _ in range(random.choice([0, 1, 1, 2, 3]))) for _ in range(random.choice([1, 1, 2])))
+
+
+def some_pattern():
+    if random.random() < 0.9:
+        return pattern(2)
+    text = pattern(0) + random.choice(BROKEN) + pattern(0)
+    no_patterns.add(text)
+    return text
+
+
+def translated(found):
+    """What Python has for a part of a pattern, of the characters that there are."""
+    part = found.group()
+    if part[:2] in ("\\p", "\\P"):
+        among = [c for c in CHARACTERS if unicodedata.category(c).startswith(part[3:-1]) == (part[1] == "p")]
+        return "[" + "".join(map(re.escape, among)) + "]"
+    if part[0] == "[":
+        inner = re.sub(r"\\[pP]\{\w+\}", lambda one: translated(one)[1:-1], part[1:-1])
+        return "[" + inner + "]"
+    return {".": "[^\n\r]", "^": "\\^", "$": "\\$"}.get(part, part)
+
+
+def matches(is_search, text, regexp):
+    if not all(isinstance(one, str) and not isinstance(one, Number) for one in (text, regexp)) or regexp in no_patterns:
+        return False
+    wanted = re.sub(r"\\[pP]\{\w+\}|\\.|\[\^?(?:\\.|[^]])*\]|.", translated, regexp)
+    return bool((re.search if is_search else re.fullmatch)(wanted, text))
+
+
 def holds(test, node, root):
     kind, *of = test
     if kind == "or":
@@ -135,6 +181,8 @@ def holds(test, node, root):
         return not holds(of[0], node, root)
     if kind == "exists":
         return bool(queried(of[0], node, root))
+    if kind == "match":
+        return matches(of[0], compared(of[1], node, root), compared(of[2], node, root))
     left, right = compared(of[0], node, root), compared(of[2], node, root)
     return {
         "==": lambda: equal(left, right),
@@ -176,11 +224,14 @@ def comparable(depth):
 
 
 def test(depth):
-    kind = random.choice(["exists", "compare", "compare", "or", "and", "not"]) if depth else random.choice(["exists", "compare"])
+    kinds = ["exists", "compare", "compare", "match"]
+    kind = random.choice(kinds + ["or", "and", "not"] if depth else kinds)
     if kind == "exists":
         return (kind, query())
     if kind == "compare":
         return (kind, comparable(2), random.choice(OPERATORS), comparable(2))
+    if kind == "match":
+        return (kind, random.random() < 0.5, comparable(1), ("literal", some_pattern()) if random.random() < 0.8 else comparable(1))
     if kind == "not":
         return (kind, test(depth - 1))
     return (kind, [test(depth - 1) for _ in range(random.choice([2, 2, 3]))])
@@ -272,10 +323,13 @@ def shown_test(test, above="or"):
     kind, *of = test
     if kind == "exists":
         text = shown_query(of[0])
+    elif kind == "match":
+        arguments = (blank() + "," + blank()).join(map(shown_comparable, of[1:]))
+        text = ("search(" if of[0] else "match(") + blank() + arguments + blank() + ")"
     elif kind == "compare":
         text = shown_comparable(of[0]) + blank() + of[1] + blank() + shown_comparable(of[2])
     elif kind == "not":
-        text = "!" + blank() + (shown_test(of[0]) if of[0][0] == "exists" and random.random() < 0.5 else in_parentheses(of[0]))
+        text = "!" + blank() + (shown_test(of[0]) if of[0][0] in ("exists", "match") and random.random() < 0.5 else in_parentheses(of[0]))
     else:
         joint = blank() + ("||" if kind == "or" else "&&") + blank()
         text = joint.join(shown_test(one, kind) for one in of[0])

@@ -8,3 +8,8 @@ pub mod Equals
 pub mod Levels
 pub mod NthNode
 pub mod Tests
+pub mod Singular
+pub mod Collected
+pub mod Numbered
+pub mod LocatedNodes
+pub mod Locations

@@ -38,10 +38,10 @@ segment_nodes_left root n = selector_nodes_left root n.nodes ++ selected_by_all 
 
 abbrev pub before_steps : Document → Frame → List Document
 before_steps root f =
-    segment_nodes_left root f.nodes ++ flat_map (selected_by_all root f.segment.now.selectors.now) (containers_left f.containers)
+    segment_nodes_left root f.nodes ++ flat_map (selected_by_all root f.selectors.now) (containers_left f.containers)
 
 abbrev pub frame_left : Document → Frame → List Document
-frame_left root f = followed f.segment.now.steps.now (before_steps root f)
+frame_left root f = followed f.steps.now (before_steps root f)
 
 -- ---- of segments, of which the first ones have these frames
 

@@ -1,5 +1,6 @@
 -- What is compared, as it is found.
-use Rattle.std.specs.Prelude.{false, Option, Some, None, pos}
+use Rattle.std.specs.Prelude.{ℕ, List, false, Option, Some, None, pos}
+use denote.Ref.{Bor}
 use Rattle.simd_json_parts.specs.Document.{Document, integer}
 use Rattle.simd_json.specs.Viewed.{doc}
 use Rattle.simd_json_parts.specs.Nodes.{Item, static_item, decimal_item, string_item}
@@ -18,6 +19,9 @@ operand_value operand.Nothing = None
 operand_value (operand.Literal l) = Some (literal_value l)
 operand_value (operand.Count n) = Some (integer false n)
 operand_value (operand.Node v) = Some (doc v)
+
+abbrev pub string_read : Bor (List ℕ) → List ℕ
+string_read t = t.now
 
 abbrev pub scalar_value : Scalar → Primitive
 scalar_value scalar.Null = nothing

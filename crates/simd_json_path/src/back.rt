@@ -56,7 +56,7 @@ impl<'tape, 'input> Iterator for Back<'tape, 'input> {
     }
 }
 
-fn bound_after_or(index: Option<i64>, default: usize, len: usize) -> usize
+pub(crate) fn bound_after_or(index: Option<i64>, default: usize, len: usize) -> usize
     requires { default ≤ len }
     ensures value { result ≡ bound_after_or index default len }
     ensures within { result ≤ len }

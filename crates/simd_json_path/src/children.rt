@@ -1,7 +1,7 @@
 //! Children of a value.
 ghost use Rattle.std.specs.Prelude.{◌≡◌, option_map};
 ghost use Rattle.simd_json.specs.Viewed.{doc};
-ghost use Rattle.simd_json_path.specs.Indexes.{at_index};
+ghost use Rattle.simd_json_path.specs.Indexes.{at_index, element_index};
 ghost use Rattle.std.specs.Iterator.{YieldsFirstBy, item_count};
 ghost use Rattle.std.specs.Option.{option_to_list};
 ghost use Rattle.simd_json.specs.Beneath.{children};
@@ -122,12 +122,16 @@ pub(crate) fn at_index<'tape, 'input>(
     ensures { option_map doc result ≡ at_index index (doc value.entry) }
 {
     let array = value.as_array()?;
+    array.get(element_index(index, array.len())?)
+}
+
+// Which of so many elements it is, if it is one.
+#[inline(always)]
+pub(crate) fn element_index(index: i64, len: usize) -> Option<usize>
+    ensures { result ≡ element_index index len }
+{
     if index >= 0 {
-        return array.get(index as usize);
+        return Some(index as usize);
     }
-    let from_end = index.unsigned_abs() as usize;
-    if from_end > array.len() {
-        return None;
-    }
-    array.get(array.len() - from_end)
+    len.checked_sub(index.unsigned_abs() as usize)
 }

@@ -1,17 +1,19 @@
 //! Filters (RFC 9535, section 2.3.5): tests of a node.
-ghost use Rattle.std.specs.Prelude.{◌≡◌, option_map, IfOk};
+ghost use Rattle.std.specs.Prelude.{◌≡◌, option_and_then, option_map, IfOk};
 ghost use Rattle.simd_json.specs.Viewed.{doc};
 ghost use Rattle.simd_json_parts.specs.Views.{get};
-ghost use Rattle.simd_json_path.specs.Filters.{holds, selected_node};
+ghost use Rattle.simd_json_path.specs.Filters.{holds, matched, selected_node, text_of};
 ghost use Rattle.simd_json_path.specs.Nodes.{at_step, at_steps};
+ghost use Rattle.simd_json_path.specs.Operands.{operand_value};
 ghost use Rattle.simd_json_query.specs.Queries.{FilterText};
 
 use crate::children::at_index;
 use crate::filter_query::exists;
-use crate::operand::{compares, operand_of};
+use crate::operand::{Operand, compares, operand_of, text_of};
 use bumpalo::Bump;
 use simd_json::tape::Value;
-use simd_json_query::{PathError, SingularQuery, Step, Test, read_filter};
+use simd_json_query::{Matcher, PathError, SingularQuery, Step, Test, read_filter};
+use simd_json_regexp::{is_found, is_match};
 use std::alloc::Allocator;
 
 /// A test of a value by itself: `@` and `$` are both the value.
@@ -58,6 +60,10 @@ pub(crate) fn holds(test: &Test<'_>, root: Value<'_, '_>, node: Value<'_, '_>) -
                 let left = operand_of(left, root, node);
                 return compares(left, *comparison, operand_of(right, root, node));
             }
+            Test::Matches(text, matcher) => {
+                let text = operand_of(text, root, node);
+                return matches(text, matcher, root, node);
+            }
             Test::Not(inner) => return !holds(inner, root, node),
             Test::And(left, right) => {
                 if !holds(left, root, node) {
@@ -72,6 +78,32 @@ pub(crate) fn holds(test: &Test<'_>, root: Value<'_, '_>, node: Value<'_, '_>) -
                 last = right;
             }
         }
+    }
+}
+
+// Whether what is compared is a string that a regular expression matches.
+fn matches(
+    text: Operand<'_, '_, '_>,
+    matcher: &Matcher<'_>,
+    root: Value<'_, '_>,
+    node: Value<'_, '_>,
+) -> bool
+    ensures { result ≡ matched (doc root.entry) matcher.now
+        (option_and_then text_of (operand_value text.entry)) (doc node.entry) }
+{
+    let Some(text) = text_of(text) else {
+        return false;
+    };
+    match matcher {
+        Matcher::Literal(pattern) => pattern.is_match(text),
+        Matcher::Match(pattern) => match text_of(operand_of(pattern, root, node)) {
+            Some(pattern) => is_match(pattern, text),
+            None => false,
+        },
+        Matcher::Search(pattern) => match text_of(operand_of(pattern, root, node)) {
+            Some(pattern) => is_found(pattern, text),
+            None => false,
+        },
     }
 }
 

@@ -2,19 +2,13 @@
 use crate::filter::follow;
 use crate::segment_nodes::SegmentNodes;
 use simd_json::tape::{Containers, Value};
-use simd_json_query::Segment;
-
-// A segment that selects nothing.
-static NOTHING: Segment<'static> = Segment {
-    selectors: &[],
-    is_descendant: false,
-    steps: &[],
-};
+use simd_json_query::{Segment, Selector, Step};
 
 /// Memory for a segment: what it has still to select of one value.
 #[derive(Clone, Copy)]
 pub struct Frame<'path, 'tape, 'input> {
-    segment: &'path Segment<'path>,
+    selectors: &'path [Selector<'path>],
+    steps: &'path [Step<'path>],
     // Of one value that it visits, and the arrays and objects that it visits after that.
     nodes: SegmentNodes<'path, 'tape, 'input>,
     containers: Containers<'tape, 'input>,
@@ -33,7 +27,13 @@ impl<'path, 'tape, 'input> Frame<'path, 'tape, 'input> {
     pub fn closed() -> Self
         ensures { (root : Document) → frame_left root result ≡ [] }
     {
-        Frame::new(&NOTHING, Value::null())
+        let null: Value<'tape, 'input> = Value::null();
+        Frame {
+            selectors: &[],
+            steps: &[],
+            nodes: SegmentNodes::new(&[], null),
+            containers: null.containers(),
+        }
     }
 
     // What a segment selects of a value. Of a scalar the selectors select nothing.
@@ -45,13 +45,15 @@ impl<'path, 'tape, 'input> Frame<'path, 'tape, 'input> {
         let null: Value<'tape, 'input> = Value::null();
         if segment.is_descendant {
             return Frame {
-                segment,
+                selectors: segment.selectors,
+                steps: segment.steps,
                 nodes: SegmentNodes::new(&[], value),
                 containers: value.containers(),
             };
         }
         Frame {
-            segment,
+            selectors: segment.selectors,
+            steps: segment.steps,
             nodes: SegmentNodes::new(segment.selectors, value),
             containers: null.containers(),
         }
@@ -64,7 +66,7 @@ impl<'path, 'tape, 'input> Frame<'path, 'tape, 'input> {
     {
         'nodes: loop {
             if let Some(node) = self.nodes.next(root) {
-                if let Some(reached) = follow(self.segment.steps, node) {
+                if let Some(reached) = follow(self.steps, node) {
                     return Some(reached);
                 }
                 continue;
@@ -72,7 +74,7 @@ impl<'path, 'tape, 'input> Frame<'path, 'tape, 'input> {
             let Some(value) = self.containers.next() else {
                 return None;
             };
-            self.nodes = SegmentNodes::new(self.segment.selectors, value);
+            self.nodes = SegmentNodes::new(self.selectors, value);
         }
     }
 }

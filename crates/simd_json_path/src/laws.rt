@@ -5,7 +5,8 @@ ghost use Rattle.std.specs.List.{list_all};
 ghost use Rattle.simd_json_parts.specs.Document.{Document};
 ghost use Rattle.simd_json_parts.specs.Limits.{depth};
 ghost use Rattle.simd_json_path.specs.Comparisons.{IsComparison, same_to};
-ghost use Rattle.simd_json_path.specs.Paths.{selected};
+ghost use Rattle.simd_json_path.specs.Locations.{located};
+ghost use Rattle.simd_json_path.specs.Paths.{is_singular, selected};
 ghost use Rattle.simd_json_path.specs.Frames.{selected_within};
 ghost use Rattle.simd_json_path.specs.declared.path.Path.{Path};
 
@@ -36,4 +37,16 @@ pub fn levels_suffice()
 /// A comparison without a bound is one that goes as deep as the first of the two values nests.
 pub fn a_comparison_exists()
     ensures { IsComparison (λ d e. same_to (depth d) d e) }
+{}
+
+/// The values with normalized paths that [`Path::locate`](crate::Path::locate) returns are those
+/// that are selected, in their order.
+pub fn what_is_located_is_what_is_selected()
+    ensures { (path : Path) (d : Document) → map (λ n. n.1) (located path d) ≡ selected path d }
+{}
+
+/// A singular query selects at most one value.
+pub fn a_singular_query_selects_at_most_one()
+    ensures { (path : Path) (d : Document) → is_singular path ≡ true
+        → length (selected path d) ≤ 1 }
 {}

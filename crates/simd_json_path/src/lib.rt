@@ -31,10 +31,12 @@
 //! | name, wildcard, index, slice selectors (2.3.1 to 2.3.4) | [`Choice`] |
 //! | filter selectors (2.3.5): queries, comparisons, `!`, `&&`, `\|\|` | [`Selector`], [`Test`] |
 //! | `length`, `count` and `value` (2.4) | [`Comparable`] |
+//! | `match` and `search` (2.4) | [`Matcher`], [`Pattern`] |
 //! | a filter by itself, of one value | [`Filter`], [`Filter::new`] |
 //! | child and descendant segments (2.5) | [`Segment`] |
 //! | a query's text | [`Path::new`] |
-//! | `match`, `search`, filters in a filter's query, normalized paths (2.7) | not yet |
+//! | normalized paths (2.7) | [`Path::locate`] |
+//! | filters in a filter's query | not yet |
 //!
 //! The RFC leaves the order of an object's members open: here it is the text's. Of equal names a
 //! name selects the first; wildcards and descendant segments visit all.
@@ -56,23 +58,31 @@
 //! each segment after the first steps, however deep the document is. With fewer nothing is
 //! selected: the iterator returns [`TooFewFrames`], and ends.
 //!
+//! [`Path::first`], [`Path::all`] and [`Path::locate`] take no frames, but recurse.
+//!
 //! # What is proved
 //!
 //! [`Path::select`] returns exactly what the definitions of `specs/` select, each a section of the
-//! RFC, in order, with duplicates. [`laws`] states how many frames suffice, that without an error
-//! nothing is left out, and that two values of which one nests at most 128 levels are equal exactly
-//! where the RFC says so.
+//! RFC, in order, with duplicates; [`Path::all`] the same, [`Path::first`] the first of it, and
+//! [`Path::locate`] each with its normalized path. [`laws`] states how many frames suffice, that
+//! without an error nothing is left out, that what is located is what is selected, and that two
+//! values of which one nests at most 128 levels are equal exactly where the RFC says so. Tested is
+//! that a normalized path, read as a query, selects its value alone.
 #![tactic(auto)]
 
 mod back;
 mod children;
+mod collect;
 mod filter;
 mod filter_query;
 mod frame;
 mod frames;
 pub mod laws;
+mod located;
+mod location;
 mod operand;
 mod path;
+mod placed;
 mod same;
 mod scalar;
 mod segment_nodes;
@@ -82,9 +92,10 @@ mod slice;
 
 pub use filter::Filter;
 pub use frame::Frame;
+pub use located::Located;
 pub use path::Path;
 pub use selected::{Selected, TooFewFrames};
 pub use simd_json_query::{
-    Choice, Comparable, Comparison, Literal, PathError, PathExpected, Query, Segment, Selector,
-    SingularQuery, Slice, Step, Test,
+    Choice, Comparable, Comparison, Literal, Matcher, PathError, PathExpected, Pattern, Query,
+    Segment, Selector, SingularQuery, Slice, Step, Test,
 };

@@ -4,8 +4,8 @@ ghost use Rattle.std.specs.Str.{chars};
 ghost use Rattle.simd_json.specs.Viewed.{doc};
 ghost use Rattle.simd_json_path.specs.Comparisons.{both, compares, equals, is_less, primitive};
 ghost use Rattle.simd_json_path.specs.Comparisons.{same_primitives};
-ghost use Rattle.simd_json_path.specs.Filters.{length_of, operand};
-ghost use Rattle.simd_json_path.specs.Operands.{operand_value, scalar_value};
+ghost use Rattle.simd_json_path.specs.Filters.{length_of, operand, text_of};
+ghost use Rattle.simd_json_path.specs.Operands.{operand_value, scalar_value, string_read};
 
 use crate::filter::selected_node;
 use crate::filter_query::{count, only};
@@ -83,6 +83,18 @@ fn length_of_value<'path, 'tape, 'input>(
         return Operand::Count(object.len());
     }
     Operand::Nothing
+}
+
+// The string, if it is one.
+pub(crate) fn text_of<'all>(operand: Operand<'all, '_, 'all>) -> Option<&'all str>
+    ensures { option_map string_read result
+        ≡ option_and_then text_of (operand_value operand.entry) }
+{
+    match operand {
+        Operand::Literal(Literal::String(text)) => Some(text),
+        Operand::Node(value) => value.as_str(),
+        _ => None,
+    }
 }
 
 fn characters(text: &str) -> usize

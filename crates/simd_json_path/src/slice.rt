@@ -72,7 +72,7 @@ fn pass(elements: &mut array::Iter<'_, '_>, count: usize)
     }
 }
 
-fn bound_or(index: Option<i64>, default: usize, len: usize) -> usize
+pub(crate) fn bound_or(index: Option<i64>, default: usize, len: usize) -> usize
     ensures { result ≡ bound_or index default len }
 {
     match index {

@@ -3,10 +3,13 @@ use simd_json_path::{Choice, Frame, Path, Query, Segment, Selector, SingularQuer
 use std::process::Abort;
 use std::test::Fail;
 
+mod collected;
 mod comparisons;
 mod examples;
 mod filters;
 mod frames;
+mod locations;
+mod patterns;
 mod queries;
 mod segments;
 mod selectors;

@@ -34,3 +34,22 @@ fn listed<'path, 'tape, 'input>(
     all.push(']')?;
     Ok(all)
 }
+
+/// The normalized paths of the values that a query selects, with a space between them.
+pub fn located(alloc: Global, document: &[u8], query: &str) -> Result<String> {
+    let mut copy = Vec::from_slice(alloc, document)?;
+    let tape = to_tape(alloc, copy.as_mut_slice())?;
+    let arena = Bump::new(alloc);
+    let mut all = String::new(alloc);
+    let path = match Path::new(&arena, query) {
+        Ok(path) => path,
+        Err(error) => return Ok(format!(in alloc; "! {error}")?),
+    };
+    for one in path.locate(alloc, &tape.as_value())? {
+        if !all.is_empty() {
+            all.push(' ')?;
+        }
+        all.push_str(one.path.as_str())?;
+    }
+    Ok(all)
+}

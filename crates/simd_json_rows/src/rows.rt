@@ -1,6 +1,6 @@
 //! A row, and its question.
 use crate::bytes::{decoded, encoded};
-use crate::paths::selected;
+use crate::paths::{located, selected};
 use crate::pointers::pointed;
 use crate::{doors, printing};
 use anyhow::{Result, bail};
@@ -72,6 +72,10 @@ impl Rows {
             "path" => {
                 let query = std::str::from_utf8(input)?;
                 selected(self.alloc, self.document.as_slice(), query)
+            }
+            "paths" => {
+                let query = std::str::from_utf8(input)?;
+                located(self.alloc, self.document.as_slice(), query)
             }
             _ => bail!("a row asks for {asked}"),
         }

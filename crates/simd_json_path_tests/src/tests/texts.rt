@@ -103,7 +103,7 @@ fn missing(
 fn memory_that_is_missing_is_named(rt: HostRuntime) -> Tested {
     let test = "@.price < 10 && (@['a\\u0062'][0] || !(@.c == \"d\\n\") || 1 < length(@.e)) \
         || count(@.f..['m', 1:2, *].g[*]) == 1 && value($['h'].i[2]) != 'j' \
-        && @.k && @.l && @.m && @.n && @.o";
+        && @.k && @.l && @.m && @.n && @.o && match(@.p, '[q-s]+t')";
     let query = format!(in rt.alloc(); "$.a['b', 1:2, *, \"\\u0063\"]..[?{test}].d[0].e..f")?;
     let filters = missing(&rt, |heap| {
         let arena = Bump::new(heap);

@@ -61,7 +61,9 @@ frames-smaller c =
     let more : n < length ss = omega arith in
     let last : n ≡ n - 1 + 1 = omega arith in
     let count = λ (k : ℕ). effort root (drop k ss) (d ∷ []) + frames_effort root ss (take k c.step.new.frames) in
-    opened-smaller root ss n _ d more _ _ _ (c.open.ensures.effort root ss more)
+    let segment = c.index-segments-opened.result in
+    let opened = rw c.index-segments-opened.is at (c.open.ensures.effort root ss more) in
+    opened-smaller root ss n segment d more _ _ _ opened
     (ap (λ k. frames_effort root ss (take k c.frames.frames)) last ∙ c.in-Some.ensures.effort ss inside ∙ ap count (sym last))
 
 pub frames-preserved : goal.frames-preserved
@@ -74,10 +76,12 @@ frames-preserved c =
     let inside : n - 1 < length ss = omega arith in
     let more : n < length ss = omega arith in
     let last : n ≡ n - 1 + 1 = omega arith in
+    let segment = c.index-segments-opened.result in
+    let opened = rw c.index-segments-opened.is at (c.open.ensures.left root ss more) in
     record {
       within = omega arith;
-      left = c.open.ensures.left root ss more
-          ∙ ap (λ ds. ds ++ frames_left root ss (take n new)) (sym (next-selected root ss n _ d more))
+      left = opened
+          ∙ ap (λ ds. ds ++ frames_left root ss (take n new)) (sym (next-selected root ss n segment d more))
           ∙ ap (λ k. nodes (selected_by root) (drop k ss) (d ∷ []) ++ frames_left root ss (take k new)) last
           ∙ sym (c.in-Some.ensures.left ss inside)
           ∙ sym (ap (λ k. frames_left root ss (take k c.frames.frames)) last)
