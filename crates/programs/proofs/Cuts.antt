@@ -1,8 +1,8 @@
 -- An input that is cut into lines as it is read.
 use Rattle.std.proofs.Common.{◌≡◌, ◌∙◌, refl, ap, sym, subst, ℕ, List, [], ◌∷◌, ◌++◌, append_assoc, append-nil, Bool, true, false, not}
-use Rattle.std.proofs.Common.{cond, ◌&&◌, ◌==◌, ◌<◌, ◌+◌, arith, zero, suc, length, take, drop, Some, None}
+use Rattle.std.proofs.Common.{◌≢◌, cond, ◌&&◌, ◌==◌, ◌<◌, ◌≤◌, ◌+◌, arith, zero, suc, length, take, drop, Some, None}
 use Rattle.std.proofs.Math.Seq.{take-length}
-use Rattle.std.proofs.lemmas.List.{drop-drop}
+use Rattle.std.proofs.lemmas.List.{drop-drop, length-drop, length-take}
 use Rattle.std.specs.Prelude.{slice_index}
 use Rattle.memchr.specs.Find.{IsFirstByte, is_byte}
 use Rattle.simd_json_parts.proofs.Pieces.{is-equal, none-before, pieces-cut, pieces-last}
@@ -39,6 +39,11 @@ found-feed hay k start all is found =
 
 pub found-none : (hay : List ℕ) → IsFirstByte (is_byte line_feed) hay None → has_no_feed hay ≡ true
 found-none hay none = ap has_no_feed (sym (take-length hay)) ∙ none-before hay (length hay) none
+
+-- so many bytes are left of what was read
+pub some-left : (start end : ℕ) (block : List ℕ) → start < end → end ≤ length block → drop start (take end block) ≢ []
+some-left start end block less fits = λ none.
+    absurd (omega (arith, less, fits, ap length none, length-drop start (take end block), length-take end block))
 
 -- nothing is read yet
 pub none-cut : (longest : ℕ) (line : List ℕ) → HasCut (record { longest = longest; has_ended = true; unread = [] }) line [] []
@@ -83,6 +88,12 @@ cut-filled c d line input more done same h = subst (λ d. HasCut d line (input +
 pub unfilled : (c d : Cut) (more : List ℕ) → d ≡ record c { unread = c.unread ++ more } → d.unread ≡ [] → more ≡ [] → c.unread ≡ []
 unfilled c d more same none no_more =
     sym (append-nil c.unread) ∙ ap (λ u. c.unread ++ u) (sym no_more) ∙ ap (λ (v : Cut). v.unread) (sym same) ∙ none
+
+-- some bytes are left of what was read
+pub some-filled : (c b d : Cut) (more : List ℕ) → b ≡ record c { has_ended = false } → d ≡ record b { unread = b.unread ++ more }
+    → d.unread ≢ [] → c.unread ++ more ≢ []
+some-filled c b d more begun same some = λ none. some
+    (ap (λ (v : Cut). v.unread) same ∙ ap (λ (v : Cut). v.unread ++ more) begun ∙ none)
 
 -- a line has ended
 pub cut-ended : (c d : Cut) (line lines input front : List ℕ) (done : List (List ℕ)) → has_no_feed front ≡ true

@@ -1,3 +1,4 @@
+pub mod Asked
 pub mod Cells
 pub mod Failures
 pub mod Lines

@@ -1,5 +1,5 @@
 -- How an input is cut into lines as it is read, and what comes of a step for each of them.
-use Rattle.std.specs.Prelude.{◌≡◌, ℕ, ◌+◌, List, [], ◌∷◌, ◌++◌, take, Bool, true, false, not, ◌==◌, Option, if◌then◌else◌}
+use Rattle.std.specs.Prelude.{◌≡◌, ◌≢◌, ◌⊎◌, ℕ, ◌+◌, List, [], ◌∷◌, ◌++◌, take, Bool, true, false, not, ◌==◌, Option, if◌then◌else◌}
 use Rattle.std.specs.Io.KnownBytes.{Consumes, IsAtEnd}
 use Rattle.std.specs.List.{list_all}
 use Rattle.simd_json_parts.specs.Bytes.{line_feed}
@@ -40,20 +40,24 @@ pub record HasCut (c : Cut) (line input : List ℕ) (done : List (List ℕ)) : T
   pub cut : (more : List ℕ) → pieces (input ++ more) ≡ done ++ pieces (begun ++ (c.unread ++ more))
   pub keeps : begun_of c line ≡ kept c.longest begun
 
+-- a line had ended, and the next one has begun; or these bytes more were read, or there were some
+abbrev pub IsMoved : Cut → Cut → List ℕ → Type 0
+IsMoved old new more = (new.has_ended ≡ false) × (IsBetween old ⊎ (old.unread ++ more ≢ []))
+
 -- Of a reader with these bytes left before and after: one more line has ended, and what is kept of it may be overwritten; or all that
--- was read is taken; or the input has ended, and the last line with it.
-abbrev pub Goes : Cut → List ℕ → Option (List ℕ) → Option (List ℕ) → List ℕ → List (List ℕ) → Event → Type 0
-Goes c line before after input done Line = (more : List ℕ) × Consumes before after more
+-- was read is taken, and that is not nothing for ever; or the input has ended, and the last line with it.
+abbrev pub Goes : Cut → Cut → List ℕ → Option (List ℕ) → Option (List ℕ) → List ℕ → List (List ℕ) → Event → Type 0
+Goes old c line before after input done Line = (more : List ℕ) × Consumes before after more
     × (last : List ℕ) × (line ≡ kept c.longest last) × ((any : List ℕ) → HasCut c any (input ++ more) (done ++ last ∷ []))
-Goes c line before after input done Block =
-    (more : List ℕ) × Consumes before after more × (c.unread ≡ []) × HasCut c line (input ++ more) done
-Goes c line before after input done End = Consumes before after [] × IsAtEnd after
+Goes old c line before after input done Block =
+    (more : List ℕ) × Consumes before after more × (c.unread ≡ []) × HasCut c line (input ++ more) done × IsMoved old c more
+Goes old c line before after input done End = Consumes before after [] × IsAtEnd after
     × (last : List ℕ) × (line ≡ kept c.longest last) × (pieces input ≡ done ++ last ∷ [])
 
 -- so of any input
 abbrev pub Moves : Cut → Cut → List ℕ → List ℕ → Option (List ℕ) → Option (List ℕ) → Event → Type 0
 Moves old new line lines before after event = (new.longest ≡ old.longest)
-    × ((input : List ℕ) (done : List (List ℕ)) → HasCut old line input done → Goes new lines before after input done event)
+    × ((input : List ℕ) (done : List (List ℕ)) → HasCut old line input done → Goes old new lines before after input done event)
 
 -- ---- what private clauses cite
 
@@ -62,6 +66,7 @@ pub record Fills (old new : Cut) (before after : Option (List ℕ)) (any : Bool)
   pub more : List ℕ
   pub read : Consumes before after more
   pub same : new ≡ record old { unread = old.unread ++ more }
+  pub some : any ≡ true → new.unread ≢ []
   pub end : any ≡ false → (new.unread ≡ []) × (more ≡ []) × IsAtEnd after
 
 -- the bytes up to a line feed are taken, or all

@@ -1,12 +1,13 @@
 //! The words of a program's command line, what it rejects of them beside what clap does, and how it
 //! ends where it does, or where they ask for help alone.
-ghost use Rattle.std.specs.Prelude.{◌≡◌, IfOk};
+ghost use Rattle.std.specs.Prelude.{◌≡◌, IfOk, map};
 ghost use Rattle.std.specs.Char.{is_ascii_digit};
 ghost use Rattle.std.specs.List.{list_all};
 ghost use Rattle.clap.specs.Kinds.{FailsBy};
 ghost use Rattle.clap.specs.Matches.{first_value, found_of};
 ghost use Rattle.clap.specs.Values.{kind_of};
 ghost use Rattle.clap.specs.declared.error.kind.ErrorKind.TheVariants.{ValueValidation};
+ghost use Rattle.programs.specs.Asked.{IsReadBy, is_given, texts_of};
 ghost use Rattle.programs.specs.Statuses.{fault_status, help_status, number_faults, words_status};
 
 use crate::escapes::shown;
@@ -15,6 +16,7 @@ use clap::{ArgMatches, Command, Error};
 use std::alloc::{AllocError, Global};
 use std::env;
 use std::io::{self, Eprint, ErrorKind};
+use std::str::FromStr;
 
 /// Returns the words of the command line; the first is the program's name.
 ///
@@ -84,6 +86,50 @@ pub fn check_digits(
         }
         _ => Ok(()),
     }
+}
+
+/// Returns the number of an option, or `None` if it is not given. The error names the option by
+/// `argument`, as `--depth <N>`.
+///
+/// Fails with `ValueValidation` if the number has a byte that is no digit, or is too great for its
+/// type, and with `OutOfMemory` if an allocation fails.
+pub fn number<T: FromStr>(
+    alloc: Global,
+    command: &mut Command<'_>,
+    matches: &ArgMatches<'_>,
+    option: &str,
+    argument: &str,
+) -> Result<Option<T>, Error>
+where
+    T::Err: Drop,
+    ensures { IfOk result (IsReadBy T.from_str_gives
+        (first_value (found_of matches.now) option.now)) }
+{
+    check_digits(alloc, command, matches, option, argument)?;
+    let Some(text) = matches.get_str(option) else {
+        return Ok(None);
+    };
+    match text.parse() {
+        Ok(number) => Ok(Some(number)),
+        Err(_) => {
+            let reason = "number too large to fit in target type";
+            Err(invalid_value(alloc, command, argument, text, reason)?)
+        }
+    }
+}
+
+/// Whether the option without a value is among the words.
+pub fn is_given(matches: &ArgMatches<'_>, option: &str) -> bool
+    ensures { result ≡ is_given (found_of matches.now) option.now }
+{
+    matches.get_str(option) == Some("true")
+}
+
+/// Returns the values of an argument, in order.
+pub fn texts<'a, 'm>(matches: &'m ArgMatches<'a>, argument: &str) -> &'m [&'a str]
+    ensures { map (λ text. text.now) result.now ≡ texts_of (found_of matches.now) argument.now }
+{
+    matches.get_strs(argument).unwrap_or_default()
 }
 
 /// Whether each byte of a word is a decimal digit.

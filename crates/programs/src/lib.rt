@@ -13,8 +13,9 @@
 //!   what failed; [`print_ending`] says so, and why.
 //! - [`arguments`]: the words of the command line. [`words_status`], [`fault_status`],
 //!   [`help_status`]: the exit status without them, where they are rejected, and after help.
-//! - [`check_digits`], [`has_digits_alone`]: whether a number has digits alone. [`invalid_value`]:
-//!   the error of a value that an argument does not take.
+//! - [`number`], [`is_given`], [`texts`]: what an argument has for a value. [`check_digits`],
+//!   [`has_digits_alone`]: whether a number has digits alone. [`invalid_value`]: the error of a
+//!   value that an argument does not take.
 //!
 //! ```
 //! use programs::{Channel, Failure, read_all};
@@ -39,14 +40,14 @@ mod whole;
 
 pub use channel::Channel;
 pub use command_line::{
-    arguments, check_digits, fault_status, has_digits_alone, help_status, invalid_value,
-    words_status,
+    arguments, check_digits, fault_status, has_digits_alone, help_status, invalid_value, is_given,
+    number, texts, words_status,
 };
 pub use escapes::shown;
 pub use failure::{Failure, ending, print_ending, put_name};
 pub use lines::{Event, Lines};
 pub use rejection::{Words, rejection_words};
 pub use retry::Retrying;
-pub use source::Source;
+pub use source::{Opener, Source};
 pub use tsv::tsv_escape;
 pub use whole::read_all;

@@ -1,7 +1,7 @@
-use Rattle.std.proofs.Common.{◌≡◌, ◌∙◌, ◌++◌, ap, sym, subst, false}
+use Rattle.std.proofs.Common.{◌≡◌, ◌∙◌, ◌++◌, ap, inr, sym, subst, false}
 use Rattle.std.specs.Io.KnownBytes.{Consumes}
 use Rattle.programs.specs.Lines.{Cut, Takes, kept}
-use Rattle.programs.proofs.Cuts.{cut-begun, cut-ended, cut-filled, cut-last, cut-taken, keeps-line, unfilled}
+use Rattle.programs.proofs.Cuts.{cut-begun, cut-ended, cut-filled, cut-last, cut-taken, keeps-line, some-filled, unfilled}
 use Rattle.programs.proofs.lines.Lines.next.Goals as goal
 
 pub returns-then-not-branch-clause-moves : goal.returns-then-not-branch-clause-moves
@@ -77,6 +77,11 @@ returns-clause-moves g c =
               cut-taken c.fill.new.self c.take.new.self c.begin.new.line.items c.take.new.line.items (input ++ filled.more) taken.front
                   done taken.none taken.taken taken.same at
                   (taken.keeps at.begun (keeps-line c.fill.new.self c.begin.new.line.items (input ++ filled.more) done ended at)),
+              (
+                ap (λ (v : Cut). v.has_ended) taken.same,
+                inr (some-filled c.args.self.now c.begin.new.self c.fill.new.self filled.more c.begin.ensures.cut filled.same
+                    (filled.some c.if-not-branch.false)),
+              ),
             ),
       ),
     )
