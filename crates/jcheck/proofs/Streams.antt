@@ -1,13 +1,16 @@
 -- The reports on the lines of a reader, as they are put one after another.
 use Rattle.std.proofs.Common.{◌≡◌, ◌∙◌, refl, ap, sym, arith, ℕ, ◌+◌, ◌≤◌, List, [], ◌∷◌, ◌++◌, length, length-append, add-zero}
-use Rattle.std.proofs.Common.{Bool, true, false, ◌&&◌, Option, append_assoc, append-nil}
+use Rattle.std.proofs.Common.{Bool, true, false, ◌&&◌, Option, None, Some, append_assoc, append-nil, codes, cond}
 use Rattle.std.proofs.lemmas.Bool.{false≢true}
 use Rattle.std.proofs.lemmas.List.Folds.{list_all-append}
 use Rattle.std.specs.Io.KnownBytes.{Consumes}
+use Rattle.std.specs.Fmt.{decimal}
 use Rattle.std.specs.List.{list_all}
+use Rattle.std.specs.Option.{option_map}
 use Rattle.std.specs.Prelude.{is_some}
 use Rattle.jcheck.specs.Failures.{IsShortOfMemory, is_of_output}
-use Rattle.jcheck.specs.Reports.{is_clean_line, line_text, lines_text}
+use Rattle.jcheck.specs.Excerpts.{excerpt}
+use Rattle.jcheck.specs.Reports.{found_text, is_clean_line, line_text, lines_text, place_after, words}
 use Rattle.jcheck.specs.Writings.{HasPutLines, HasPutSome, TakesLine}
 use Rattle.jcheck.specs.declared.excerpt.Style.{Style}
 use Rattle.jcheck.specs.declared.failure.Failure.{Failure}
@@ -17,7 +20,14 @@ use Rattle.programs.proofs.Reading
 use Rattle.programs.proofs.Reading.{HasFirst, at-block, at-end, at-line, at-start, first-more, first-now}
 use Rattle.programs.specs.Lines.{Cut, Moves, kept}
 use Rattle.programs.specs.declared.lines.Event.TheVariants.{Line, Block, End}
-use Rattle.simd_json_parts.specs.Pieces.{pieces}
+use Rattle.simd_json_check.specs.Locations.{file_line}
+use Rattle.simd_json_check.specs.Messages.{kind_words, location_text}
+use Rattle.simd_json_check.specs.Openings.{opening_in}
+use Rattle.simd_json_check.specs.Reasons.{found_in, location_in}
+use Rattle.simd_json_check.specs.declared.location.Location.{Location}
+use Rattle.simd_json_check.specs.declared.location.opening.Opening.{Opening}
+use Rattle.simd_json_parts.specs.Bytes.{line_feed}
+use Rattle.simd_json_parts.specs.Pieces.{is_blank, pieces}
 use Rattle.simd_json_print.proofs.Texts.{adds-is, adds-lost, adds-none, adds-then}
 use Rattle.simd_json_print.specs.Texts.{TargetState, Adds}
 use Rattle.simd_json_print.specs.declared.text.Text.{Text}
@@ -26,10 +36,6 @@ use Rattle.simd_json_print.specs.declared.text.Text.{Text}
 abbrev pub bytes_of : List (List ℕ) → ℕ
 bytes_of [] = 0
 bytes_of (line ∷ more) = length line + 1 + bytes_of more
-
-length-bytes : (ps : List (List ℕ)) → length ps ≤ bytes_of ps
-length-bytes [] = omega arith
-length-bytes (p ∷ ps) = omega (arith, length-bytes ps)
 
 bytes-last : (ps : List (List ℕ)) (p : List ℕ) → bytes_of (ps ++ p ∷ []) ≡ bytes_of ps + length p + 1
 bytes-last [] p = omega arith
@@ -43,6 +49,45 @@ and-true false = refl
 kept-all : (longest : ℕ) (line last : List ℕ) → line ≡ kept longest last → length line ≤ longest → line ≡ last
 kept-all longest line last is short =
     is ∙ kept-is (λ l. l) longest last (λ _ long. absurd (omega (arith, short, ap length is, long)))
+
+-- ---- a place goes as far as 64 bits hold it, and what is printed of it does
+
+line-held : (n l : ℕ) → file_line (place_after n 0) l ≡ file_line n l
+line-held n l = omega arith
+
+opening-held : (n : ℕ) (o : Option Opening) → option_map (opening_in (place_after n 0)) o ≡ option_map (opening_in n) o
+opening-held n None = refl
+opening-held n (Some o) = ap (λ l. Some (record { opened = o.opened; line = l; column = o.column })) (line-held n o.line)
+
+location-held : (n : ℕ) (l : Location) → location_in (place_after n 0) l ≡ location_in n l
+location-held n l =
+    let with_line : ℕ → Option Opening → Location = λ line opening.
+    record { error = l.error; byte = l.byte; line = line; column = l.column; reason = l.reason; opening = opening } in
+    ap (λ k. with_line k (option_map (opening_in (place_after n 0)) l.opening)) (line-held n l.line)
+    ∙ ap (with_line (file_line n l.line)) (opening-held n l.opening)
+
+byte-held : (s b : ℕ) → place_after (place_after s 0) b ≡ place_after s b
+byte-held s b = omega arith
+
+words-held : (file : List ℕ) (n s : ℕ) (l : Location) → words file (place_after n 0) (place_after s 0) l ≡ words file n s l
+words-held file n s l =
+    ap (λ m. file ++ codes ":" ++ location_text m ++ codes " [" ++ kind_words l ++ codes " at byte "
+    ++ decimal (place_after (place_after s 0) l.byte) ++ codes "]") (location-held n l)
+    ∙ ap (λ k. file ++ codes ":" ++ location_text (location_in n l) ++ codes " [" ++ kind_words l ++ codes " at byte " ++ decimal k
+    ++ codes "]") (byte-held s l.byte)
+
+found-held : (file : List ℕ) (style : Style) (n s : ℕ) (checked : List ℕ) (found : Option Location)
+    → found_text file style (place_after n 0) (place_after s 0) checked found ≡ found_text file style n s checked found
+found-held file style n s checked None = refl
+found-held file style n s checked (Some l) = ap (λ us. us ++ (line_feed ∷ []) ++ excerpt style checked l.byte) (words-held file n s l)
+
+blank-or : (b : Bool) (t u : List ℕ) → t ≡ u → cond {A = List ℕ} b [] t ≡ cond {A = List ℕ} b [] u
+blank-or b t u same = ap (λ v. cond {A = List ℕ} b [] v) same
+
+line-text-held : (file : List ℕ) (style : Style) (limit n s : ℕ) (line : List ℕ)
+    → line_text file style limit (place_after n 0) (place_after s 0) line ≡ line_text file style limit n s line
+line-text-held file style limit n s line =
+    blank-or (is_blank line) _ _ (found-held file style n s line (found_in line limit))
 
 module _ (file : List ℕ) (style : Style) (limit : ℕ) where
   abbrev text_of : List (List ℕ) → List ℕ
@@ -65,12 +110,14 @@ module _ (file : List ℕ) (style : Style) (limit : ℕ) where
       )
       ∙ sym (append_assoc here rest (lines_text file style limit (number + length (p ∷ ps)) (start + bytes_of (p ∷ ps)) qs))
 
-  text-last : (done : List (List ℕ)) (line : List ℕ) (number start : ℕ) → number ≡ 1 + length done → start ≡ bytes_of done
+  text-last : (done : List (List ℕ)) (line : List ℕ) (number start : ℕ) → number ≡ place_after (1 + length done) 0
+      → start ≡ place_after (bytes_of done) 0
       → text_of done ++ line_text file style limit number start line ≡ text_of (done ++ line ∷ [])
   text-last done line number start line_is byte_is =
-      let place : start ≡ 0 + bytes_of done = omega (arith, byte_is) in
+      let place : place_after (bytes_of done) 0 ≡ place_after (0 + bytes_of done) 0 = omega arith in
       ap (λ n. text_of done ++ line_text file style limit n start line) line_is
-      ∙ ap (λ s. text_of done ++ line_text file style limit (1 + length done) s line) place
+      ∙ ap (λ s. text_of done ++ line_text file style limit (place_after (1 + length done) 0) s line) (byte_is ∙ place)
+      ∙ ap (λ us. text_of done ++ us) (line-text-held file style limit (1 + length done) (0 + bytes_of done) line)
       ∙ ap (λ us. text_of done ++ us) (sym (append-nil (line_text file style limit (1 + length done) (0 + bytes_of done) line)))
       ∙ sym (lines-append 1 0 done (line ∷ []))
 
@@ -80,15 +127,12 @@ module _ (file : List ℕ) (style : Style) (limit : ℕ) where
       pub done : List (List ℕ)
       pub at : Reading.IsAt longest lines line before after done
       pub put : Adds state old new (text_of done)
-      pub line_is : reports.place.line ≡ 1 + length done
-      pub byte_is : reports.place.byte ≡ bytes_of done
+      pub line_is : reports.place.line ≡ place_after (1 + length done) 0
+      pub byte_is : reports.place.byte ≡ place_after (bytes_of done) 0
       pub clean_is : reports.all_clean ≡ list_all (is_clean_line limit) done
 
     module _ {new : Text T size} {reports : LineReports} {c : Cut} {line : List ℕ} {left : Option (List ℕ)}
         (d : AreDone new reports c line left) where
-      pub line-bound : reports.place.line ≤ reports.place.byte + 1
-      line-bound = omega (arith, d.line_is, d.byte_is, length-bytes d.done)
-
       first-text : {after : Option (List ℕ)} (h : HasFirst before after d.done)
           → text_of d.done ++ lines_text file style limit (1 + length d.done) (0 + bytes_of d.done) h.rest ≡ text_of (pieces h.input)
       first-text h = sym (lines-append 1 0 d.done h.rest) ∙ ap text_of (sym h.all)
@@ -209,7 +253,7 @@ module _ (file : List ℕ) (style : Style) (limit : ℕ) where
       done = [];
       at = at-start longest line before;
       put = adds-none state old;
-      line_is = first;
-      byte_is = start;
+      line_is = omega (arith, first);
+      byte_is = omega (arith, start);
       clean_is = clean;
     }

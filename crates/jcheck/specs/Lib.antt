@@ -1,3 +1,4 @@
+pub mod Asked
 pub mod Colors
 pub mod Endings
 pub mod Excerpts

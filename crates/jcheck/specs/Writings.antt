@@ -3,7 +3,7 @@ use Rattle.std.specs.Prelude.{◌≡◌, ◌+◌, ◌++◌, ◌&&◌, ℕ, List,
 use Rattle.std.specs.Io.KnownBytes.{Appends, Consumes, IsAtEnd}
 use Rattle.std.specs.List.{list_all}
 use Rattle.jcheck.specs.Failures.{IsShortOfMemory, is_of_output}
-use Rattle.jcheck.specs.Reports.{is_clean_line, line_text, lines_text}
+use Rattle.jcheck.specs.Reports.{is_clean_line, line_text, lines_text, place_after}
 use Rattle.jcheck.specs.declared.excerpt.Style.{Style}
 use Rattle.jcheck.specs.declared.failure.Failure.{Failure}
 use Rattle.jcheck.specs.declared.lines.LineReports.{LineReports}
@@ -32,8 +32,8 @@ pub record HasPart {T : Type 0} {size : ℕ} (state : T → TargetState) (old ne
 -- one more line has ended, and the report on it was put
 pub record TakesLine {T : Type 0} {size : ℕ} (state : T → TargetState) (old new : Text T size) (limit : ℕ) (reports next : LineReports)
     (line : List ℕ) : Type 0 where
-  pub line_is : next.place.line ≡ reports.place.line + 1
-  pub byte_is : next.place.byte ≡ reports.place.byte + length line + 1
+  pub line_is : next.place.line ≡ place_after reports.place.line 1
+  pub byte_is : next.place.byte ≡ place_after reports.place.byte (length line + 1)
   pub clean_is : next.all_clean ≡ (reports.all_clean && is_clean_line limit line)
   pub put : Adds state old new
       (line_text reports.place.file.now reports.style limit reports.place.line reports.place.byte line)

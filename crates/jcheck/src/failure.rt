@@ -6,7 +6,8 @@ use std::alloc::AllocError;
 use std::fmt::{self, Display, Formatter, Write};
 use std::io::{self, ErrorKind};
 
-/// Why a check ended before the end of its input. Printed it is the error's own text.
+/// Why a check ended before the end of its input. Printed it is `out of memory`, or else the
+/// error's own text.
 #[derive(Clone, Copy, Debug)]
 pub enum Failure {
     /// The input can't be read, or an allocation failed.
@@ -57,9 +58,15 @@ impl From<AllocError> for Failure {
 }
 
 impl Display for Failure {
+    ghost use Rattle.jcheck.specs.Failures.{known_text};
+
+    ghost output = { known_text };
+
     fn fmt<W: Write>(&self, f: &mut Formatter<W>) -> fmt::Result {
-        match self {
-            Failure::Input(e) | Failure::Output(e) => e.fmt(f),
+        let (Failure::Input(e) | Failure::Output(e)) = self;
+        match e.kind() {
+            ErrorKind::OutOfMemory => f.write_str("out of memory"),
+            _ => e.fmt(f),
         }
     }
 }

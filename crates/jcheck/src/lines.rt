@@ -1,12 +1,12 @@
 //! Lines as a reader gives them, each of which is checked as a document.
-ghost use Rattle.std.specs.Prelude.{◌≡◌, ◌≤◌, ◌+◌, [], ℕ, List};
-ghost use Rattle.std.specs.Prelude.{false, true, IfOk, IfErr, OnOk, OnErr};
+ghost use Rattle.std.specs.Prelude.{◌≡◌, [], ℕ, List, false, true};
+ghost use Rattle.std.specs.Prelude.{IfOk, IfErr, IsOk, OnOk, OnErr};
 ghost use Rattle.std.specs.Io.KnownBytes.{Appends, Consumes};
 ghost use Rattle.std.specs.List.{list_all};
 ghost use Rattle.jcheck.specs.Reports.{is_clean_line, line_text, lines_text};
 ghost use Rattle.jcheck.specs.Writings.{HasPutLines, HasPutSome, HasStopped, TakesLine};
 ghost use Rattle.programs.specs.Ports.{HasRead};
-ghost use Rattle.simd_json_parts.specs.Pieces.{pieces};
+ghost use Rattle.simd_json_parts.specs.Pieces.{is_blank, pieces};
 ghost use Rattle.simd_json_print.specs.Texts.{Adds};
 
 use crate::checker::DocumentChecker;
@@ -19,16 +19,13 @@ use simd_json_print::text::{Target, Text};
 use std::alloc::AllocError;
 use std::io::{Read, Write};
 
-// After how many bytes no more are read, so that a place is a number of 64 bits.
-const MOST: usize = 1 << 62;
-
 /// Checks each line of what a reader gives as a document, and writes the place and the reason of
 /// each error, with the text around it in this style, before it reads more. Only the line that has
 /// begun and the block that was read last are kept. Returns whether there is no error.
 ///
 /// Fails with `Output` exactly if the writer does, and with `Input` if the reader or an allocation
-/// fails, or after 2^62 bytes (`OutOfMemory`). A beginning of the output of what has been read is
-/// written then.
+/// fails, or if the input does not end within 2^64 - 1 lines and blocks (`OutOfMemory`). A beginning
+/// of the output of what has been read is written then.
 pub fn check_lines<R: Read, W: Write>(
     checker: &mut DocumentChecker,
     reader: &mut Channel<R>,
@@ -128,27 +125,25 @@ impl<'a> LineReports<'a> {
         }
     }
 
-    // Appends the report on the next line. If an allocation fails, nothing is appended.
+    // Appends the report on the next line. If an allocation fails, nothing is appended; one that is
+    // blank takes none.
     fn put<T: Target, const SIZE: usize>(
         &mut self,
         checker: &mut DocumentChecker,
         text: &mut Text<'_, T, SIZE>,
         line: &[u8],
     ) -> Result<(), AllocError>
-        requires line { self.old.place.line ≤ self.old.place.byte + 1 }
         ensures taken { OnOk result (TakesLine T.state text.old text.new checker.old.depth
             self.old self.new line.now) }
         ensures none { OnErr result (Adds T.state text.old text.new []) }
+        ensures blank { is_blank line.now ≡ true → IsOk result }
         ensures style { self.new.style ≡ self.old.style }
         ensures file { self.new.place.file.now ≡ self.old.place.file.now }
         ensures depth { checker.new.depth ≡ checker.old.depth }
     {
-        if self.place.byte >= MOST {
-            return Err(AllocError);
-        }
         self.all_clean &= put_line(checker, text, self.place, line, self.style)?;
-        self.place.line += 1;
-        self.place.byte += line.len() + 1;
+        self.place.line = self.place.line.saturating_add(1);
+        self.place.byte = self.place.byte.saturating_add(line.len()).saturating_add(1);
         Ok(())
     }
 }
@@ -167,6 +162,7 @@ fn put_line<T: Target, const SIZE: usize>(
         (line_text start.entry.file.now style checker.old.depth
         start.entry.line start.entry.byte line.now)) }
     ensures none { OnErr result (Adds T.state text.old text.new []) }
+    ensures blank { is_blank line.now ≡ true → IsOk result }
     ensures depth { checker.new.depth ≡ checker.old.depth }
 {
     if is_blank(line) {

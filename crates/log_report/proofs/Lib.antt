@@ -1,3 +1,4 @@
+pub mod Named
 mod Begun
 mod Counting
 mod Cuts

@@ -14,7 +14,7 @@ use Rattle.programs.specs.Lines.{kept}
 use Rattle.jsonl.specs.Records.{Numbered, Outcome, outcome_of_line}
 use Rattle.log_report.proofs.Begun.{rejections-grow}
 use Rattle.log_report.specs.Report.{Report, next, rejection_line, with_counted_line, with_counted_outcome, with_counted_rejection}
-use Rattle.log_report.specs.Runs.{CountsMore, CountsRejection, ShowsReport, counts_of}
+use Rattle.log_report.specs.Runs.{CountsMore, CountsRejection, ShowsReport}
 use Rattle.log_report.specs.Table.{counted, rejected}
 use Rattle.log_report.specs.declared.lines.Lines.{Lines}
 use Rattle.log_report.specs.declared.rows.Wanted.{Wanted}

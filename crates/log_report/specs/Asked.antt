@@ -1,13 +1,15 @@
 -- Which keys and JSON Pointers lines count by.
-use Rattle.std.specs.Prelude.{ℕ, List, [], ◌∷◌, codes, Bool, true, false, ◌==◌, ◌||◌, if◌then◌else◌, nat_lt}
+use Rattle.std.specs.Prelude.{◌≡◌, ◌⊎◌, ℕ, List, [], ◌∷◌, ◌++◌, codes, map, Bool, true, false, ◌==◌, ◌||◌, if◌then◌else◌, nat_lt}
 use Rattle.std.specs.Prelude.{Option, None, Some, is_some, option_and_then, slice_get}
 use Rattle.std.specs.Borrow.{Bor}
 use Rattle.clap.specs.Kinds.{Kinds}
-use Rattle.clap.specs.Matches.{matched_of}
+use Rattle.clap.specs.Matches.{first_value, matched_of}
 use Rattle.clap.specs.declared.error.kind.ErrorKind.TheVariants.{ValueValidation}
 use Rattle.clap.specs.declared.parser.matches.Found.{Found}
 use Rattle.simd_json_parts.specs.Bytes.{slash}
 use Rattle.simd_json_parts.specs.Pointed.{is_pointer}
+use Rattle.programs.specs.Asked.{is_given, number_or, or_input, texts_of}
+use Rattle.log_report.specs.declared.options.Options.{Options}
 use Rattle.log_report.specs.declared.rows.Selector.{Selector}
 use Rattle.log_report.specs.declared.rows.Selector.TheVariants.{Key, Pointer}
 
@@ -52,3 +54,40 @@ is_before m n = false
 
 abbrev pub begins_with_key : Found → Bool
 begins_with_key f = is_before (place_of f (codes "key")) (place_of f (codes "word"))
+
+-- the selector of a word
+abbrev pub IsOfWord : List ℕ → Selector → Type 0
+IsOfWord text selector = (word : Bor (List ℕ)) × (word.now ≡ text) × (Some selector ≡ selector_of word)
+
+-- that of any key
+abbrev pub IsOfKey : List ℕ → Selector → Type 0
+IsOfKey text selector = (key : Bor (List ℕ)) × (key.now ≡ text) × (selector ≡ Key key)
+
+-- the selectors of words and of keys, with each of the two in their order
+abbrev pub AreOf : List (List ℕ) → List (List ℕ) → List Selector → Type 0
+AreOf words keys [] = (words ≡ []) × (keys ≡ [])
+AreOf words keys (s ∷ selectors) =
+    ((text : List ℕ) × (more : List (List ℕ)) × (words ≡ text ∷ more) × IsOfWord text s × AreOf more keys selectors)
+    ⊎ ((text : List ℕ) × (more : List (List ℕ)) × (keys ≡ text ∷ more) × IsOfKey text s × AreOf words more selectors)
+
+abbrev pub optional : Option (List ℕ) → List (List ℕ)
+optional None = []
+optional (Some text) = text ∷ []
+
+-- the first word, unless it is a file, and then the values of --and
+abbrev pub first_words : Found → List (List ℕ)
+first_words f = if begins_with_key f then [] else optional (first_value f (codes "word"))
+
+abbrev pub words_of : Found → List (List ℕ)
+words_of f = first_words f ++ texts_of f (codes "and")
+
+-- the first word is a file after --key
+abbrev pub files_of : Found → List (List ℕ)
+files_of f = or_input ((if begins_with_key f then texts_of f (codes "word") else []) ++ texts_of f (codes "file"))
+
+pub record HasOptions (f : Found) (o : Options) : Type 0 where
+  pub selectors : AreOf (words_of f) (texts_of f (codes "key")) o.selectors.items
+  pub tsv : o.is_tsv ≡ is_given f (codes "tsv")
+  pub values : o.values ≡ number_or 1024 (first_value f (codes "values"))
+  pub longest : o.longest ≡ number_or 65536 (first_value f (codes "longest"))
+  pub files : map (λ name. name.now) o.files.items ≡ files_of f

@@ -1,16 +1,21 @@
 //! What the program's arguments ask for.
-ghost use Rattle.std.specs.Prelude.{◌≡◌, IfErr, IfOk, OnOk, Some, true};
+ghost use Rattle.std.specs.Prelude.{◌≡◌, ◌∷◌, ◌++◌, [], ℕ, List, codes, map, string_bytes};
+ghost use Rattle.std.specs.Prelude.{IfErr, IfOk, OnOk, Some, true};
 ghost use Rattle.std.specs.List.{list_all};
 ghost use Rattle.std.specs.Result.{result_ok};
 ghost use Rattle.clap.specs.Kinds.{FailsBy};
 ghost use Rattle.clap.specs.Matches.{found_of};
+ghost use Rattle.clap.specs.Simple.{App, HasMatchesOf};
+ghost use Rattle.clap.specs.declared.parser.matches.ArgMatches.{ArgMatches};
 ghost use Rattle.simd_json_parts.specs.Pointed.{is_pointer};
-ghost use Rattle.log_report.specs.Asked.{begins_with_key, is_selector, selector_faults};
-ghost use Rattle.log_report.specs.Asked.{selector_of, unread_text};
+ghost use Rattle.programs.specs.Asked.{texts_of};
+ghost use Rattle.log_report.specs.Asked.{AreOf, HasOptions, begins_with_key, files_of};
+ghost use Rattle.log_report.specs.Asked.{is_selector, selector_faults, selector_of, unread_text};
+ghost use Rattle.log_report.specs.Asked.{first_words, words_of};
 
 use crate::rows::{Selector, Wanted};
 use clap::{Arg, ArgAction, ArgMatches, Command, Error, value_parser};
-use programs::{check_digits, invalid_value};
+use programs::{invalid_value, is_given, number, texts};
 use simd_json_parts::pointer::is_well_formed;
 use std::alloc::{AllocError, Global};
 
@@ -50,8 +55,33 @@ pub struct Options<'a> {
 }
 
 impl<'a> Options<'a> {
+    // What was found in the words.
+    fn of(
+        alloc: Global,
+        command: &mut Command<'_>,
+        matches: &ArgMatches<'a>,
+    ) -> Result<Options<'a>, Error>
+        ensures options { IfOk result (HasOptions (found_of matches.now)) }
+        ensures selectors { IfOk result (λ asked. list_all is_selector asked.selectors.items
+            ≡ true) }
+    {
+        let longest: Option<u32> = number(alloc, command, matches, "longest", "--longest <BYTES>")?;
+        let values = number(alloc, command, matches, "values", "--values <N>")?;
+        Ok(Options {
+            selectors: selectors(alloc, command, matches)?,
+            is_tsv: is_given(matches, "tsv"),
+            values: values.unwrap_or(1024),
+            longest: longest.unwrap_or(65_536) as usize,
+            files: files(alloc, matches)?,
+        })
+    }
+
     /// What lines count by, and how the report is written.
-    pub fn wanted(&self) -> Wanted<'_> {
+    pub fn wanted(&self) -> Wanted<'_>
+        ensures selectors { result.selectors.now ≡ self.now.selectors.items }
+        ensures rest { (result.is_tsv ≡ self.now.is_tsv) × (result.values ≡ self.now.values)
+            × (result.longest ≡ self.now.longest) }
+    {
         Wanted {
             selectors: self.selectors.as_slice(),
             is_tsv: self.is_tsv,
@@ -61,7 +91,9 @@ impl<'a> Options<'a> {
     }
 
     /// The names of the files, of which there is at least one.
-    pub fn files(&self) -> &[&'a str] {
+    pub fn files(&self) -> &[&'a str]
+        ensures { result.now ≡ self.now.files.items }
+    {
         self.files.as_slice()
     }
 }
@@ -70,27 +102,13 @@ impl<'a> Options<'a> {
 /// of `--help` or `--version`, or says what is not understood: also a malformed JSON Pointer, and a
 /// word that looks like a path of jq or a JSONPath.
 pub fn asked<'a>(alloc: Global, words: &'a [String]) -> Result<Options<'a>, Error>
-    ensures { IfOk result (λ asked. list_all is_selector asked.selectors.items ≡ true) }
+    ensures options { IfOk result (λ asked. (app : App) × (m : ArgMatches)
+        × HasMatchesOf app (map string_bytes words.entry.now) m × HasOptions (found_of m) asked) }
+    ensures selectors { IfOk result (λ asked. list_all is_selector asked.selectors.items ≡ true) }
 {
     let mut command = command(alloc)?;
     let matches = command.try_get_matches_from_mut(words)?;
-    check_digits(
-        alloc,
-        &mut command,
-        &matches,
-        "longest",
-        "--longest <BYTES>",
-    )?;
-    check_digits(alloc, &mut command, &matches, "values", "--values <N>")?;
-    let selectors = selectors(alloc, &mut command, &matches)?;
-    let longest = matches.get_one::<u32>("longest").unwrap_or(65_536);
-    Ok(Options {
-        selectors,
-        is_tsv: matches.get_flag("tsv"),
-        values: matches.get_one::<u32>("values").unwrap_or(1024),
-        longest: longest as usize,
-        files: files(alloc, &matches)?,
-    })
+    Options::of(alloc, &mut command, &matches)
 }
 
 // What lines count by: the first word, unless it is a file, and what --and and --key add.
@@ -99,16 +117,32 @@ fn selectors<'a>(
     command: &mut Command<'_>,
     matches: &ArgMatches<'a>,
 ) -> Result<Vec<Selector<'a>>, Error>
-    ensures { IfOk result (λ selectors. list_all is_selector selectors.items ≡ true) }
+    ensures each { IfOk result (λ selectors. AreOf (words_of (found_of matches.now))
+        (texts_of (found_of matches.now) (codes "key")) selectors.items) }
+    ensures well_formed { IfOk result (λ selectors. list_all is_selector selectors.items ≡ true) }
 {
     let mut selectors = Vec::new(alloc);
-    if let Some(word) = matches.get_str("word")
-        && !begins_with_key(matches)
-    {
-        push_word(alloc, command, word, &mut selectors)?;
-    }
+    push_first(alloc, command, matches, &mut selectors)?;
     push_more(alloc, command, matches, &mut selectors)?;
     Ok(selectors)
+}
+
+// Appends the selector of the first word, unless it is a file.
+fn push_first<'a>(
+    alloc: Global,
+    command: &mut Command<'_>,
+    matches: &ArgMatches<'a>,
+    selectors: &mut Vec<Selector<'a>>,
+) -> Result<(), Error>
+    ensures each { selectors.old.items ≡ []
+        → OnOk result (AreOf (first_words (found_of matches.now)) [] selectors.new.items) }
+    ensures well_formed { list_all is_selector selectors.old.items ≡ true
+        → OnOk result (list_all is_selector selectors.new.items ≡ true) }
+{
+    match matches.get_str("word") {
+        Some(word) if !begins_with_key(matches) => push_word(alloc, command, word, selectors),
+        _ => Ok(()),
+    }
 }
 
 // Whether --key comes before the first word, which is a file then.
@@ -128,24 +162,24 @@ fn push_more<'a>(
     matches: &ArgMatches<'a>,
     selectors: &mut Vec<Selector<'a>>,
 ) -> Result<(), Error>
-    ensures { list_all is_selector selectors.old.items ≡ true
+    ensures each { (first : List (List ℕ)) → AreOf first [] selectors.old.items
+        → OnOk result (AreOf (first ++ texts_of (found_of matches.now) (codes "and"))
+        (texts_of (found_of matches.now) (codes "key")) selectors.new.items) }
+    ensures well_formed { list_all is_selector selectors.old.items ≡ true
         → OnOk result (list_all is_selector selectors.new.items ≡ true) }
 {
     let (words, keys) = (texts(matches, "and"), texts(matches, "key"));
     let (word_places, key_places) = (places(matches, "and"), places(matches, "key"));
     let (mut taken, mut taken_keys) = (0, 0);
-    for _ in 0..words.len().saturating_add(keys.len()) {
-        match (words.get(taken), keys.get(taken_keys)) {
-            (Some(word), key)
-                if key.is_none() || word_places.get(taken) < key_places.get(taken_keys) => {
-                taken += 1;
-                push_word(alloc, command, *word, selectors)?;
-            }
-            (_, Some(key)) => {
-                taken_keys += 1;
-                selectors.push(Selector::Key(*key))?;
-            }
-            _ => return Ok(()),
+    while taken < words.len() || taken_keys < keys.len() {
+        if taken_keys == keys.len()
+            || taken < words.len() && word_places.get(taken) < key_places.get(taken_keys)
+        {
+            push_word(alloc, command, words[taken], selectors)?;
+            taken += 1;
+        } else {
+            selectors.push(Selector::Key(keys[taken_keys]))?;
+            taken_keys += 1;
         }
     }
     Ok(())
@@ -158,7 +192,9 @@ fn push_word<'a>(
     word: &'a str,
     selectors: &mut Vec<Selector<'a>>,
 ) -> Result<(), Error>
-    ensures { list_all is_selector selectors.old.items ≡ true
+    ensures each { (words keys : List (List ℕ)) → AreOf words keys selectors.old.items
+        → OnOk result (AreOf (words ++ word.now ∷ []) keys selectors.new.items) }
+    ensures well_formed { list_all is_selector selectors.old.items ≡ true
         → OnOk result (list_all is_selector selectors.new.items ≡ true) }
 {
     selectors.push(selector(alloc, command, word)?)?;
@@ -215,7 +251,10 @@ fn is_pointer(text: &str) -> bool
 
 // The names of the files, or that of standard input where there are none. The first word is one
 // after --key.
-fn files<'a>(alloc: Global, matches: &ArgMatches<'a>) -> Result<Vec<&'a str>, AllocError> {
+fn files<'a>(alloc: Global, matches: &ArgMatches<'a>) -> Result<Vec<&'a str>, AllocError>
+    ensures { IfOk result (λ files. map (λ name. name.now) files.items
+        ≡ files_of (found_of matches.now)) }
+{
     let mut files = Vec::new(alloc);
     if begins_with_key(matches) {
         files.extend_from_slice(texts(matches, "word"))?;
@@ -227,12 +266,7 @@ fn files<'a>(alloc: Global, matches: &ArgMatches<'a>) -> Result<Vec<&'a str>, Al
     Ok(files)
 }
 
-// The values of an argument, in order.
-fn texts<'a, 'm>(matches: &'m ArgMatches<'a>, name: &str) -> &'m [&'a str] {
-    matches.get_strs(name).unwrap_or_default()
-}
-
-// Where among the words they are.
+// Where among the words the values of an argument are.
 fn places<'m>(matches: &'m ArgMatches<'_>, name: &str) -> &'m [usize] {
     matches.indices_of(name).unwrap_or_default()
 }

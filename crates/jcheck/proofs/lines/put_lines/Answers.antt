@@ -1,9 +1,9 @@
-use Rattle.std.proofs.Common.{◌∙◌, ◌+◌, ◌≤◌, ◌^◌, ◌-◌, [], arith, refl, rules, subst, sym}
+use Rattle.std.proofs.Common.{◌∙◌, ◌+◌, ◌^◌, ◌-◌, [], arith, refl, rules, subst, sym}
 use Rattle.std.proofs.KnownBytes.{Consumes-nil}
 use Rattle.std.proofs.lemmas.Bool.{false≢true}
 use Rattle.std.proofs.lemmas.Result.{err_from_is_err_and}
 use Rattle.jcheck.specs.Writings.{TakesLine}
-use Rattle.jcheck.proofs.Streams.{AreDone, all-done, block-done, end-stopped, line-bound, line-done, line-stopped, none-done, others-lost}
+use Rattle.jcheck.proofs.Streams.{AreDone, all-done, block-done, end-stopped, line-done, line-stopped, none-done, others-lost}
 use Rattle.jcheck.proofs.Streams.{reading-stopped}
 use Rattle.programs.specs.Lines.{Moves}
 use Rattle.jcheck.proofs.lines.put_lines.Goals as goal
@@ -38,22 +38,12 @@ returns-in-Err-clause-stopped g c =
     reading-stopped _ _ _ _ _ _ _ c.loop.invariant.done (failed.1, failed.2) (λ _. sym c.has_failed.ensures ∙ c.if-has_failed.false)
     c.of_input.ensures.input (λ read. c.of_input.ensures.memory (c.fault.ensures ∙ read))
 
-pub put-requires : goal.put-requires
-put-requires g c =
-    let bound : c.loop.reports.place.line ≤ c.loop.reports.place.byte + 1 = line-bound _ _ _ _ _ _ _ c.loop.invariant.done in
-    search (rules, bound)
-
 pub returns-in_err-put-in-Line-clause-stopped : goal.returns-in_err-put-in-Line-clause-stopped
 returns-in_err-put-in-Line-clause-stopped g c =
     let p = err_from_is_err_and c.from_residual.result c.from_residual.ensures.1 in
     let moves = subst (Moves c.loop.lines c.next.new.self c.loop.line.items c.next.new.line.items (g.R.Read.remaining c.loop.reader.inner)
     (g.R.Read.remaining c.next.new.reader.inner)) c.in-Line.is c.in-Ok.ensures.moves.1 in
     rw p.1 (line-stopped _ _ _ _ _ _ _ c.loop.invariant.done moves c.in_err-put-in-Line.ensures.none c.in-Ok.ensures.moves.0 p.2)
-
-pub put-requires-in-End : goal.put-requires-in-End
-put-requires-in-End g c =
-    let bound : c.loop.reports.place.line ≤ c.loop.reports.place.byte + 1 = line-bound _ _ _ _ _ _ _ c.loop.invariant.done in
-    search (rules, bound)
 
 pub returns-in_err-put-in-End-clause-stopped : goal.returns-in_err-put-in-End-clause-stopped
 returns-in_err-put-in-End-clause-stopped g c =
