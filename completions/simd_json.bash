@@ -8,7 +8,7 @@ _simd_json() {
     [ "$option" != = ] || option=${COMP_WORDS[COMP_CWORD - 2]} # --color=al is three words
     case $option in
         --color) words='auto always never' ;;
-        --depth | --longest | --values | --and | --key | --where) compopt +o default; return ;; # no files
+        --depth | --longest | --values | --and | --each | --key | --where) compopt +o default; return ;; # no files
     esac
     case ${1##*/}:$2 in
         jtape:*)
@@ -16,7 +16,7 @@ _simd_json() {
             [ "$COMP_CWORD" -gt 1 ] || words='tape positions compact pretty lines'
             ;;
         jcheck:-*) words='--color --depth --help --lines --version' ;;
-        jpick:-*) words='--all --and --csv --depth --document --exit-status --header --help --json --longest --pretty --quiet --raw --tsv --version --where' ;;
+        jpick:-*) words='--all --and --csv --depth --document --each --exit-status --header --help --json --longest --pretty --quiet --raw --sort-keys --tsv --version --where' ;;
         log_report:-*) words='--and --help --key --longest --tsv --values --version' ;;
     esac
     [ -z "$words" ] || mapfile -t COMPREPLY < <(compgen -W "$words" -- "$2")

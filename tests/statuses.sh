@@ -287,10 +287,13 @@ wanted 'a line that is too long' 1 '1\n' '-:1: longer than 3 bytes (--longest)\n
 given '[[1]]\n[2]' --depth 1 /0
 wanted 'a line that is too deep' 1 '2\n' '-:1:2: one container more than the depth limit [DepthLimitExceeded]\n'
 document='{\n "k": [1,\n 2]}\n'
-hint='jpick: with -d each file is one document\n'
-given "$document" /k
-wanted 'a document in place of lines' 1 '' "-:1:1: the input ends after this, within the object that begins at 1:1 [Syntax]
-${hint}-:2:5: more text after the document [TrailingData]\n-:3:3: more text after the document [TrailingData]\n"
+hint='jpick: to read a file as one document, type: jpick -d ..\n'
+printf "$document" > "$room/document"
+"$program" /k - "$room/missing" < "$room/document" > "$room/out" 2> "$room/err"
+status=$?
+wanted 'a document in place of lines' 2 '' "-:1:1: the input ends after this, within the object that begins at 1:1 [Syntax]\n$hint"
+given "$document{\"k\":1}\n" -q /k
+wanted 'a document in place of lines, quietly' 1 '1\n' ''
 for option in -d --document; do
     given "$document" "$option" /k/1
     wanted "a document by $option" 0 '2\n' ''
@@ -389,9 +392,10 @@ given '1' /a --and b
 wanted 'a second query' 2 '' 'jpick: `b` is neither a JSON Pointer, as `/a/b`, nor a JSONPath, as `$.a.b`\n'
 given '1' '$.a['
 wanted 'a path that ends early' 2 '' 'jpick: not a JSONPath: expected a selector\n$.a[\n    ^\n'
-given '1' /a --and '$.a[?match(@.b, "c")]'
-wanted 'a path with match' 2 '' \
-    'jpick: not a JSONPath: expected a test without match or search\n$.a[?match(@.b, "c")]\n     ^\n'
+given '1' /a --and '$.a[?match(@.b)]'
+wanted 'a match of one argument' 2 '' 'jpick: not a JSONPath: expected ,\n$.a[?match(@.b)]\n              ^\n'
+given '{"level":"warning"}' --where 'search(@.level, "^w|err|warn[a-z]+")'
+wanted 'a search' 0 '{"level":"warning"}\n' ''
 # What is written in other languages: a path, what it lacks, how many columns in, and what is meant.
 while IFS='#' read -r path column lacks meant; do
     given '1' "$path"
@@ -438,6 +442,46 @@ for option in --tsv --csv --json; do
     given '1' --pretty "$option"
     said "jpick --pretty $option" 2 "$option"
 done
+given '{"b":[{"d":1,"c":2}],"a":3,"b":4}\n' --sort-keys ''
+wanted 'members by their keys' 0 '{"a":3,"b":[{"c":2,"d":1}],"b":4}\n' ''
+given '{"b":[{"d":1,"c":2}],"a":3}\n' --sort-keys --csv '' --and '$..b[*]'
+wanted 'members by their keys, in columns' 0 '"{""a"":3,""b"":[{""c"":2,""d"":1}]}","[{""c"":2,""d"":1}]"\n' ''
+# A value takes the same stack at any depth: as it is, as a string of columns, and with its keys in order.
+awk 'BEGIN { for (i = 0; i < 1000000; i++) printf "["; for (i = 0; i < 1000000; i++) printf "]"; print "" }' > "$room/nested"
+for option in --raw --tsv --csv --json --sort-keys; do
+    case $option in
+        --csv) sed 's/.*/"&"/' "$room/nested" ;;
+        --json) sed 's/.*/[&]/' "$room/nested" ;;
+        *) cat "$room/nested" ;;
+    esac > "$room/in"
+    env -i sh -c 'ulimit -s 256 && exec "$@"' sh "$program" -d --depth 4294967295 "$option" '' "$room/nested" > "$room/out" 2> "$room/err"
+    status=$?
+    [ "$status" = 0 ] && cmp -s "$room/in" "$room/out" && [ ! -s "$room/err" ] && continue
+    different=1
+    echo "a million arrays by $option: status $status, wanted 0 and what was given"
+done
+# Rows take no memory: 100,000 zeros in 1,000 arrays, on lines of their own.
+awk 'BEGIN {
+    for (i = 0; i < 1000; i++) printf "["
+    for (i = 0; i < 99999; i++) printf "0,"
+    printf "0"
+    for (i = 0; i < 1000; i++) printf "]"
+}' > "$room/nested"
+{ env -i sh -c 'ulimit -v 32768 && exec "$@"' sh "$program" -d --pretty '' "$room/nested" 2> "$room/err"; echo $? > "$room/status"; } | wc -c > "$room/out"
+status=$(cat "$room/status")
+wanted '202 MB of an input of 202 kB' 0 "$((2 * 1000 * 1001 + 100000 * 2003 - 1))\n" ''
+users='{"users":[{"name":"a","age":1},{"name":"b","tags":["x","y"]}],\n"name":"c"}\n'
+given "$users" -d -r --each '$.users[*]' /name --and /age
+wanted 'rows of each user' 0 'a\t1\nb\t\n' ''
+given "$users" -d --each '$.users[*]' --where '@.tags' '$.tags[*]'
+wanted 'rows of each user that passes a test' 0 '"x"\n"y"\n' ''
+printf "$users" > "$room/users"
+given '' -d --sort-keys --each /users/0 '' "$room/users"
+wanted 'a user in a file' 0 '{"age":1,"name":"a"}\n' ''
+given "$users" -d -e --each '$.users[*]' /age --and /tags
+wanted 'rows of no user' 1 '' ''
+given '1' --each users /a
+wanted 'an --each that is no query' 2 '' 'jpick: `users` is neither a JSON Pointer, as `/a/b`, nor a JSONPath, as `$.a.b`\n'
 given '1' --all
 said 'jpick without a query' 2 'QUERY'
 given '{"k":1}\n{"k":2}\n' --where '@.k == 2'

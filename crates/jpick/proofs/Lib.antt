@@ -3,6 +3,10 @@ mod Arrays
 mod Begun
 mod Ended
 mod Enough
+mod Escapes
+mod Ordered
 mod Picking
+mod Putting
 mod Shown
+mod SortedRows
 mod Zipped

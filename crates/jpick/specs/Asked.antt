@@ -1,6 +1,6 @@
 -- What the words of a command line ask for, by what was found in them.
 use Rattle.std.specs.Prelude.{◌≡◌, ℕ, List, [], ◌∷◌, ◌++◌, codes, map, Bool, true, false, not, ◌&&◌, ◌||◌, bytes_eq, ◌==◌}
-use Rattle.std.specs.Prelude.{if◌then◌else◌, is_some}
+use Rattle.std.specs.Prelude.{if◌then◌else◌, is_some, Option, None, Some, ⊤}
 use Rattle.std.specs.List.{AllZip}
 use Rattle.std.specs.Option.{option_map_or}
 use Rattle.clap.specs.Matches.{first_value, matched_of, raw_values}
@@ -36,9 +36,10 @@ abbrev pub begins_query : List ℕ → Bool
 begins_query [] = true
 begins_query (x ∷ xs) = (x == slash) || (x == dollar)
 
--- it may be left out where lines are filtered, or values are printed over several lines
+-- it may be left out where lines are filtered, values are printed over several lines, or there are rows of each of some
 abbrev pub may_be_left_out : Found → Bool
-may_be_left_out f = is_given f (codes "pretty") || is_some (first_value f (codes "where"))
+may_be_left_out f =
+    is_given f (codes "pretty") || is_some (first_value f (codes "where")) || is_some (first_value f (codes "each"))
 
 -- the first word is a file then, if there is one
 abbrev pub is_left_out : Found → Bool
@@ -66,6 +67,12 @@ abbrev pub IsQueryOf : Query → List ℕ → Type 0
 IsQueryOf (query.Pointer pointer) text = (pointer.now ≡ text) × (is_path text ≡ false)
 IsQueryOf (query.Path written p) text = (written.now ≡ text) × path.Query p.steps.now p.segments.now text
 
+-- of an option that need not be given
+abbrev pub IsEachOf : Option Query → Option (List ℕ) → Type 0
+IsEachOf None None = ⊤
+IsEachOf (Some q) (Some text) = IsQueryOf q text
+IsEachOf _ _ = ⊥
+
 abbrev pub IsFilterOf : Filter → List ℕ → Type 0
 IsFilterOf filter text = path.FilterText filter.test.now text
 
@@ -75,12 +82,14 @@ with_flags f w = record w {
   layout = layout_of (is_given f (codes "tsv")) (is_given f (codes "csv")) (is_given f (codes "json"));
   is_raw = is_given f (codes "raw");
   is_pretty = is_given f (codes "pretty");
+  has_sorted_keys = is_given f (codes "sort-keys");
   needs_all = is_given f (codes "exit-status") || is_given f (codes "all");
   is_quiet = is_given f (codes "quiet");
   is_document = is_given f (codes "document");
 }
 
 pub record HasOptions (f : Found) (o : Options) : Type 0 where
+  pub each : IsEachOf o.wanted.each (first_value f (codes "each"))
   pub queries : AllZip IsQueryOf o.wanted.queries.now (first_query f ++ texts_of f (codes "and"))
   pub filters : AllZip IsFilterOf o.wanted.filters.now (texts_of f (codes "where"))
   pub flags : o.wanted ≡ with_flags f o.wanted

@@ -2,6 +2,8 @@ pub mod Asked
 pub mod Files
 pub mod Hints
 pub mod Picked
+pub mod Putting
 pub mod Queries
 pub mod Rows
 pub mod Runs
+pub mod Sorted

@@ -1,15 +1,16 @@
 -- What is picked of a document: whether its line is printed, and its row.
-use Rattle.std.specs.Prelude.{ℕ, List, [], ◌∷◌, ◌++◌, flat_map, codes, Bool, true, false, ◌&&◌, ◌||◌, not, ◌==◌, if◌then◌else◌}
+use Rattle.std.specs.Prelude.{ℕ, List, [], ◌∷◌, ◌++◌, flat_map, map, codes, Bool, true, false, ◌&&◌, ◌||◌, not, ◌==◌, if◌then◌else◌}
 use Rattle.std.specs.Prelude.{Option, None, Some, is_some, unwrap_or}
 use Rattle.std.specs.List.{list_all}
 use Rattle.programs.specs.Cells.{cells, raw_text, tsv_escape}
 use Rattle.simd_json_parts.specs.Bytes.{comma, left_bracket, line_feed, quote, right_bracket, tab}
 use Rattle.simd_json_parts.specs.Document.{Document, string, array, object}
-use Rattle.simd_json_parts.specs.Printed.{compact, pretty}
-use Rattle.simd_json_parts.specs.Views.{as_null, as_str}
+use Rattle.simd_json_parts.specs.Printed.{compact, text}
+use Rattle.simd_json_parts.specs.Views.{as_null}
 use Rattle.simd_json_path.specs.Filters.{holds}
 use Rattle.simd_json_path.specs.declared.filter.Filter.{Filter}
 use Rattle.jpick.specs.Queries.{elements_of, first, is_singular, selected_by, text_of}
+use Rattle.jpick.specs.Sorted.{sorted}
 use Rattle.jpick.specs.declared.fields.Layout.{Layout}
 use Rattle.jpick.specs.declared.fields.Layout.TheVariants.{Tabs, Tsv, Csv, Json}
 use Rattle.jpick.specs.declared.fields.Wanted.{Wanted}
@@ -61,26 +62,32 @@ no_value_text _ = []
 
 -- as JSON, over several lines or compact
 abbrev pub shown : Bool → Document → List ℕ
-shown true d = pretty d
-shown false d = compact d
+shown pretty d = text pretty d 0
 
 -- a string as its text, if that is wanted
 abbrev pub plain_text : Bool → Bool → Document → List ℕ
-plain_text true split d = unwrap_or (as_str d) (shown split d)
-plain_text false split d = shown split d
+plain_text true pretty (string t) = t
+plain_text raw pretty d = shown pretty d
 
-abbrev pub value_text : Layout → Bool → Bool → Document → List ℕ
-value_text Tabs raw split d = plain_text raw split d
-value_text Json raw split d = compact d
-value_text layout raw split d = field_text layout d
+abbrev pub text_in : Layout → Bool → Bool → Document → List ℕ
+text_in Tabs raw pretty d = plain_text raw pretty d
+text_in Json raw pretty d = compact d
+text_in layout raw pretty d = field_text layout d
+
+-- with the members of each object in the order of their keys, if that is wanted
+abbrev pub arranged : Wanted → Document → Document
+arranged w d = if w.has_sorted_keys then sorted d else d
+
+abbrev pub value_text : Wanted → Document → List ℕ
+value_text w d = text_in w.layout w.is_raw w.is_pretty (arranged w d)
 
 abbrev pub value_cell : Wanted → Option Document → List ℕ
 value_cell w None = no_value_text w.layout
-value_cell w (Some d) = value_text w.layout w.is_raw w.is_pretty d
+value_cell w (Some d) = value_text w d
 
 -- the column of a query that may select more than one value: an array of all
-abbrev pub array_text : Layout → List Document → List ℕ
-array_text layout ds = value_text layout false false (array (elements_of ds))
+abbrev pub array_text : Wanted → List Document → List ℕ
+array_text w ds = text_in w.layout false false (array (elements_of (map (arranged w) ds)))
 
 -- ---- the row
 
@@ -102,7 +109,7 @@ closing _ = line_feed ∷ []
 abbrev pub cell_at : Wanted → Option Document → Query → List ℕ
 cell_at w None q = field_text w.layout (string (text_of q))
 cell_at w (Some d) q =
-    if is_singular q then value_cell w (first (selected_by q d)) else array_text w.layout (selected_by q d)
+    if is_singular q then value_cell w (first (selected_by q d)) else array_text w (selected_by q d)
 
 -- the row of a document, or the header
 abbrev pub row : Wanted → Option Document → List ℕ
@@ -111,7 +118,7 @@ row w d = opening w.layout ++ cells (mark_of w.layout) (cell_at w d) w.queries.n
 -- ---- the rows of a document: of a lone query that may select more than one value there is one for each
 
 abbrev pub value_row : Wanted → Document → List ℕ
-value_row w d = opening w.layout ++ value_text w.layout w.is_raw w.is_pretty d ++ closing w.layout
+value_row w d = opening w.layout ++ value_text w d ++ closing w.layout
 
 abbrev pub rows_by : Wanted → List Query → Document → List ℕ
 rows_by w (q ∷ []) d = if is_singular q then row w (Some d) else flat_map (value_row w) (selected_by q d)
@@ -121,6 +128,20 @@ rows_by w (q ∷ r ∷ qs) d = row w (Some d)
 abbrev pub document_rows : Wanted → Document → List ℕ
 document_rows w d = rows_by w w.queries.now d
 
--- what private clauses cite
+-- of a value, if it is printed
+abbrev pub picked_rows : Wanted → Document → List ℕ
+picked_rows w d = if is_picked w d then document_rows w d else []
+
+-- of each value that a query selects of a document, or without one of the document
+abbrev pub rows_of_each : Option Query → Wanted → Document → List ℕ
+rows_of_each None w d = picked_rows w d
+rows_of_each (Some q) w d = flat_map (picked_rows w) (selected_by q d)
+
+-- ---- what private clauses cite
+
 abbrev pub needed_rows : Wanted → Document → List ℕ
 needed_rows w d = if has_needed w d then document_rows w d else []
+
+-- of an array's text
+abbrev pub element_text : Wanted → Document → List ℕ
+element_text w d = flat_map (escaped w.layout) (compact (arranged w d))

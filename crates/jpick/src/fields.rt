@@ -1,22 +1,33 @@
 //! How a value is printed.
-ghost use Rattle.std.specs.Prelude.{◌≡◌, ◌++◌, ℕ, List, OnOk, flat_map, option_map};
-ghost use Rattle.programs.specs.Cells.{raw_text};
+ghost use Rattle.std.specs.Prelude.{◌≡◌, ◌<◌, ◌++◌, ℕ, List, IfNone, IfSome, OnOk, flat_map};
+ghost use Rattle.std.specs.Prelude.{length, option_map, take};
 ghost use Rattle.simd_json.specs.Viewed.{doc};
 ghost use Rattle.simd_json_parts.specs.Document.{Elements, array, string};
-ghost use Rattle.simd_json_parts.specs.Printed.{compact, pretty};
-ghost use Rattle.jpick.specs.Rows.{closing, escape_of, escaped, field_text, mark_of};
-ghost use Rattle.jpick.specs.Rows.{no_value_text, opening, plain_text, quote_of, shown};
+ghost use Rattle.simd_json_parts.specs.Printed.{compact};
+ghost use Rattle.simd_json_print.specs.Layout.{is_pretty as has_lines};
+ghost use Rattle.simd_json_print.specs.Texts.{Adds};
+ghost use Rattle.jpick.specs.Putting.{Puts};
+ghost use Rattle.jpick.specs.Rows.{arranged, closing, element_text, escape_of, escaped};
+ghost use Rattle.jpick.specs.Rows.{field_text, mark_of, no_value_text, opening, plain_text};
+ghost use Rattle.jpick.specs.Rows.{quote_of, shown};
 ghost use Rattle.jpick.specs.Rows.{value_cell, value_text};
 
 use crate::query::Query;
+use crate::sorted::{put_sorted, sorted_nodes};
 use programs::tsv_escape;
 use simd_json::tape::Value;
 use simd_json_path::Filter;
+use simd_json_print::document::Layout::Compact;
+use simd_json_print::document::{self, Level, append};
+use simd_json_print::text::{Target, Text};
 use std::alloc::{AllocError, Allocator};
 
 /// What is picked of each line, and how it is printed.
 #[derive(Clone, Copy)]
 pub struct Wanted<'a> {
+    /// What selects the values of a line of which there are rows. Without it, these are rows of the
+    /// line. What is said of a line below holds of each such value.
+    pub each: Option<Query<'a>>,
     /// What selects the values.
     pub queries: &'a [Query<'a>],
     /// Lines that do not pass them all are skipped.
@@ -28,6 +39,8 @@ pub struct Wanted<'a> {
     /// Whether a value is printed over several lines, if the layout is [`Layout::Tabs`]. The array
     /// of what a path selects, in a row of several queries, is not.
     pub is_pretty: bool,
+    /// Whether the members of each object are printed in the order of their keys.
+    pub has_sorted_keys: bool,
     /// Whether a line is skipped if a query selects nothing of it.
     pub needs_all: bool,
     /// Whether rejected lines are not named.
@@ -66,164 +79,227 @@ impl Layout {
             Layout::Json => (b"[", b",", b"]\n"),
         }
     }
+
+    /// What is printed for a query that selects nothing.
+    fn no_value(self) -> &'static [u8]
+        ensures { result.now ≡ no_value_text self }
+    {
+        match self {
+            Layout::Json => b"null",
+            _ => b"",
+        }
+    }
 }
 
-/// Appends what is printed for a column with this value. `spare` may be overwritten.
+/// Memory for putting values, which is kept from one to the next.
+#[derive(Drop)]
+pub struct Spare<A: Allocator> {
+    bytes: Vec<u8, A>,
+    // for the containers that are open, so that putting a value takes the same stack at any depth
+    levels: Vec<Level, A>,
+}
+
+impl<A: Allocator + Copy> Spare<A> {
+    /// Returns no memory yet.
+    pub fn new(a: A) -> Spare<A> {
+        Spare {
+            bytes: Vec::new(a),
+            levels: Vec::new(a),
+        }
+    }
+
+    /// Reserves all memory for putting values of at most `longest` bytes, in which at most `depth`
+    /// containers are open at a time.
+    ///
+    /// Returns an error if an allocation fails.
+    pub fn reserve(&mut self, longest: usize, depth: usize) -> Result<(), AllocError> {
+        self.bytes.reserve(longest)?;
+        lengthen(&mut self.levels, depth.min(longest))
+    }
+
+    /// Returns the allocator of the memory.
+    pub fn allocator(&self) -> A {
+        *self.bytes.allocator()
+    }
+}
+
+// Makes the list as long as that, if it is shorter.
+fn lengthen<A: Allocator>(levels: &mut Vec<Level, A>, length: usize) -> Result<(), AllocError> {
+    if levels.len() < length {
+        levels.resize(length, Level::EMPTY)?;
+    }
+    Ok(())
+}
+
+/// Puts what is printed for a column with this value. `spare` may be overwritten.
 ///
-/// Returns an error if an allocation fails, as the next three do.
-pub fn append_cell<A: Allocator>(
-    rows: &mut Vec<u8, A>,
-    spare: &mut Vec<u8, A>,
+/// Returns an error if an allocation fails, after a prefix of that.
+pub fn put_cell<T: Target, const SIZE: usize, A: Allocator + Copy>(
+    text: &mut Text<'_, T, SIZE>,
+    spare: &mut Spare<A>,
     wanted: &Wanted<'_>,
     value: Option<Value<'_, '_>>,
 ) -> Result<(), AllocError>
-    ensures { OnOk result (rows.new.items
-        ≡ rows.old.items ++ value_cell wanted.now (option_map doc value.entry)) }
+    ensures { Puts T.state text.old text.new result
+        (value_cell wanted.now (option_map doc value.entry)) }
 {
     match value {
-        Some(value) => append_value(rows, spare, wanted, value),
-        None => append_missing(rows, wanted.layout),
+        Some(value) => put_value(text, spare, wanted, value),
+        None => {
+            text.put(wanted.layout.no_value());
+            Ok(())
+        }
     }
 }
 
-/// Appends what is printed for a value. `spare` may be overwritten.
-pub fn append_value<A: Allocator>(
-    rows: &mut Vec<u8, A>,
-    spare: &mut Vec<u8, A>,
+/// Puts what is printed for a value. `spare` may be overwritten.
+///
+/// Returns an error if an allocation fails, after a prefix of that.
+pub fn put_value<T: Target, const SIZE: usize, A: Allocator + Copy>(
+    text: &mut Text<'_, T, SIZE>,
+    spare: &mut Spare<A>,
     wanted: &Wanted<'_>,
     value: Value<'_, '_>,
 ) -> Result<(), AllocError>
-    ensures { OnOk result (rows.new.items ≡ rows.old.items
-        ++ value_text wanted.now.layout wanted.now.is_raw wanted.now.is_pretty
-        (doc value.entry)) }
+    ensures { Puts T.state text.old text.new result (value_text wanted.now (doc value.entry)) }
 {
     match wanted.layout {
-        Layout::Tabs => append_plain(rows, wanted, value),
-        Layout::Json => append_compact(rows, value),
-        Layout::Tsv | Layout::Csv => append_field(rows, spare, wanted.layout, value),
+        Layout::Tabs => put_plain(text, spare, wanted, value),
+        Layout::Json => put_document(text, spare, wanted, value, false),
+        Layout::Tsv | Layout::Csv => put_field(text, spare, wanted, value),
     }
 }
 
-fn append_missing<A: Allocator>(rows: &mut Vec<u8, A>, layout: Layout) -> Result<(), AllocError>
-    ensures { OnOk result (rows.new.items ≡ rows.old.items ++ no_value_text layout) }
-{
-    match layout {
-        Layout::Json => rows.extend_from_slice(b"null"),
-        _ => Ok(()),
-    }
-}
-
-// Appends a string as its text, if that is wanted, and every other value as JSON.
-fn append_plain<A: Allocator>(
-    rows: &mut Vec<u8, A>,
+// Puts a string as its text, if that is wanted, and every other value as JSON.
+fn put_plain<T: Target, const SIZE: usize, A: Allocator + Copy>(
+    text: &mut Text<'_, T, SIZE>,
+    spare: &mut Spare<A>,
     wanted: &Wanted<'_>,
     value: Value<'_, '_>,
 ) -> Result<(), AllocError>
-    ensures { OnOk result (rows.new.items ≡ rows.old.items
-        ++ plain_text wanted.now.is_raw wanted.now.is_pretty (doc value.entry)) }
+    ensures { Puts T.state text.old text.new result
+        (plain_text wanted.now.is_raw wanted.now.is_pretty
+        (arranged wanted.now (doc value.entry))) }
 {
-    if !wanted.is_raw {
-        return append_shown(rows, wanted.is_pretty, value);
+    if wanted.is_raw
+        && let Some(string) = value.as_str()
+    {
+        text.put(string.as_bytes());
+        return Ok(());
     }
-    match value.as_str() {
-        Some(string) => rows.extend_from_slice(string.as_bytes()),
-        None => append_shown(rows, wanted.is_pretty, value),
-    }
+    put_document(text, spare, wanted, value, wanted.is_pretty)
 }
 
-// Appends a value as JSON, over several lines or compact.
-fn append_shown<A: Allocator>(
-    rows: &mut Vec<u8, A>,
-    is_pretty: bool,
+// Puts a value as JSON, over several lines or compact.
+fn put_document<T: Target, const SIZE: usize, A: Allocator + Copy>(
+    text: &mut Text<'_, T, SIZE>,
+    spare: &mut Spare<A>,
+    wanted: &Wanted<'_>,
     value: Value<'_, '_>,
+    is_pretty: bool,
 ) -> Result<(), AllocError>
-    ensures { OnOk result (rows.new.items ≡ rows.old.items ++ shown is_pretty (doc value.entry)) }
+    ensures { Puts T.state text.old text.new result
+        (shown is_pretty (arranged wanted.now (doc value.entry))) }
+{
+    let layout = laid_out(is_pretty);
+    let nodes = value.nodes();
+    lengthen(&mut spare.levels, wanted.depth.min(nodes.len()))?;
+    if wanted.has_sorted_keys {
+        let a = spare.allocator();
+        return put_sorted(text, a, value, layout, spare.levels.as_mut_slice());
+    }
+    document::put(text, nodes, layout, spare.levels.as_mut_slice());
+    Ok(())
+}
+
+fn laid_out(is_pretty: bool) -> document::Layout
+    ensures { has_lines result ≡ is_pretty }
 {
     if is_pretty {
-        return append_pretty(rows, value);
+        document::Layout::Pretty
+    } else {
+        document::Layout::Compact
     }
-    append_compact(rows, value)
 }
 
-fn append_pretty<A: Allocator>(
-    rows: &mut Vec<u8, A>,
+// Puts a value as tab separated or comma separated text has it.
+fn put_field<T: Target, const SIZE: usize, A: Allocator + Copy>(
+    text: &mut Text<'_, T, SIZE>,
+    spare: &mut Spare<A>,
+    wanted: &Wanted<'_>,
     value: Value<'_, '_>,
 ) -> Result<(), AllocError>
-    ensures { OnOk result (rows.new.items ≡ rows.old.items ++ pretty (doc value.entry)) }
-{
-    match value.write_pp(rows) {
-        Ok(()) => Ok(()),
-        Err(_) => Err(AllocError),
-    }
-}
-
-// Appends a string as its text, and every other value as compact JSON.
-fn append_text<A: Allocator>(rows: &mut Vec<u8, A>, value: Value<'_, '_>) -> Result<(), AllocError>
-    ensures { OnOk result (rows.new.items ≡ rows.old.items ++ raw_text (doc value.entry)) }
-{
-    match value.as_str() {
-        Some(string) => rows.extend_from_slice(string.as_bytes()),
-        None => append_compact(rows, value),
-    }
-}
-
-/// Appends a value as compact JSON.
-pub fn append_compact<A: Allocator>(
-    rows: &mut Vec<u8, A>,
-    value: Value<'_, '_>,
-) -> Result<(), AllocError>
-    ensures { OnOk result (rows.new.items ≡ rows.old.items ++ compact (doc value.entry)) }
-{
-    match value.write(rows) {
-        Ok(()) => Ok(()),
-        Err(_) => Err(AllocError),
-    }
-}
-
-// Appends a value as tab separated or comma separated text has it.
-fn append_field<A: Allocator>(
-    rows: &mut Vec<u8, A>,
-    spare: &mut Vec<u8, A>,
-    layout: Layout,
-    value: Value<'_, '_>,
-) -> Result<(), AllocError>
-    ensures { OnOk result (rows.new.items
-        ≡ rows.old.items ++ field_text layout (doc value.entry)) }
+    ensures { Puts T.state text.old text.new result
+        (field_text wanted.now.layout (arranged wanted.now (doc value.entry))) }
 {
     if value.eq_null() {
         return Ok(());
     }
-    spare.clear();
-    append_text(spare, value)?;
-    append_quoted(rows, layout, quote_of(layout, value), spare.as_slice())
-}
-
-/// Appends a text, escaped and between quotes.
-pub fn append_quoted<A: Allocator>(
-    rows: &mut Vec<u8, A>,
-    layout: Layout,
-    quote: &[u8],
-    text: &[u8],
-) -> Result<(), AllocError>
-    ensures { OnOk result (rows.new.items ≡ rows.old.items
-        ++ (quote.now ++ (flat_map (escaped layout) text.now ++ quote.now))) }
-{
-    rows.extend_from_slice(quote)?;
-    append_escaped(rows, layout, text)?;
-    rows.extend_from_slice(quote)?;
+    if let Some(string) = value.as_str() {
+        put_name(text, wanted.layout, string);
+        return Ok(());
+    }
+    let quote = quote_of(wanted.layout, value);
+    text.put(quote);
+    put_element(text, spare, wanted, value)?;
+    text.put(quote);
     Ok(())
 }
 
-/// Appends a text as a string.
-pub fn append_name<A: Allocator>(
-    rows: &mut Vec<u8, A>,
+/// Puts a value as compact JSON, escaped. `spare` may be overwritten.
+///
+/// Returns an error if an allocation fails. Nothing is put then.
+pub fn put_element<T: Target, const SIZE: usize, A: Allocator + Copy>(
+    text: &mut Text<'_, T, SIZE>,
+    spare: &mut Spare<A>,
+    wanted: &Wanted<'_>,
+    value: Value<'_, '_>,
+) -> Result<(), AllocError>
+    ensures { Puts T.state text.old text.new result
+        (element_text wanted.now (doc value.entry)) }
+{
+    if matches!(wanted.layout, Layout::Tabs | Layout::Json) {
+        return put_document(text, spare, wanted, value, false);
+    }
+    fill_compact(spare, wanted, value)?;
+    put_escaped(text, wanted.layout, spare.bytes.as_slice());
+    Ok(())
+}
+
+// Makes the bytes those of a value as compact JSON.
+fn fill_compact<A: Allocator + Copy>(
+    spare: &mut Spare<A>,
+    wanted: &Wanted<'_>,
+    value: Value<'_, '_>,
+) -> Result<(), AllocError>
+    ensures { OnOk result (spare.new.bytes.items
+        ≡ compact (arranged wanted.now (doc value.entry))) }
+{
+    spare.bytes.clear();
+    if !wanted.has_sorted_keys {
+        return append(&mut spare.bytes, value.nodes(), Compact, &mut spare.levels);
+    }
+    let nodes = sorted_nodes(spare.allocator(), value)?;
+    append(
+        &mut spare.bytes,
+        nodes.as_slice(),
+        Compact,
+        &mut spare.levels,
+    )
+}
+
+/// Puts a text as a string.
+pub fn put_name<T: Target, const SIZE: usize>(
+    text: &mut Text<'_, T, SIZE>,
     layout: Layout,
     name: &str,
-) -> Result<(), AllocError>
-    ensures { OnOk result (rows.new.items
-        ≡ rows.old.items ++ field_text layout (string name.now)) }
+)
+    ensures { Adds T.state text.old text.new (field_text layout (string name.now)) }
 {
-    append_quoted(rows, layout, quote(layout), name.as_bytes())
+    let quote = quote(layout);
+    text.put(quote);
+    put_escaped(text, layout, name.as_bytes());
+    text.put(quote);
 }
 
 // What is before and after a value: quotes in comma separated text, if it is no truth value and no
@@ -249,29 +325,44 @@ pub fn quote(layout: Layout) -> &'static [u8]
     }
 }
 
-fn append_escaped<A: Allocator>(
-    rows: &mut Vec<u8, A>,
+// Puts the runs of bytes without escapes, and what is written for each byte between them.
+fn put_escaped<T: Target, const SIZE: usize>(
+    text: &mut Text<'_, T, SIZE>,
     layout: Layout,
-    text: &[u8],
-) -> Result<(), AllocError>
-    ensures { OnOk result (rows.new.items ≡ rows.old.items ++ flat_map (escaped layout) text.now) }
+    bytes: &[u8],
+)
+    ensures { Adds T.state text.old text.new (flat_map (escaped layout) bytes.now) }
 {
-    for byte in text {
-        append_byte(rows, layout, *byte)?;
+    let mut left = bytes;
+    'runs: while let Some(at) = escape_in(layout, left) {
+        let (run, rest) = left.split_at(at);
+        text.put(run);
+        put_byte(text, layout, rest[0]);
+        left = rest.split_at(1).1;
     }
-    Ok(())
+    text.put(left);
 }
 
-fn append_byte<A: Allocator>(
-    rows: &mut Vec<u8, A>,
-    layout: Layout,
-    byte: u8,
-) -> Result<(), AllocError>
-    ensures { OnOk result (rows.new.items ≡ rows.old.items ++ escaped layout byte) }
+// Where the first byte is that is not written as itself.
+fn escape_in(layout: Layout, bytes: &[u8]) -> Option<usize>
+    ensures found { IfSome result (λ at. (at < length bytes.now)
+        × (flat_map (escaped layout) (take at bytes.now) ≡ take at bytes.now)) }
+    ensures none { IfNone result (flat_map (escaped layout) bytes.now ≡ bytes.now) }
+{
+    for at in 0..bytes.len() {
+        if escape_of(layout, bytes[at]).is_some() {
+            return Some(at);
+        }
+    }
+    None
+}
+
+fn put_byte<T: Target, const SIZE: usize>(text: &mut Text<'_, T, SIZE>, layout: Layout, byte: u8)
+    ensures { Adds T.state text.old text.new (escaped layout byte) }
 {
     match escape_of(layout, byte) {
-        Some(escape) => rows.extend_from_slice(escape),
-        None => Ok(rows.push(byte)?),
+        Some(escape) => text.put(escape),
+        None => text.put(&[byte]),
     }
 }
 

@@ -2,8 +2,8 @@
 ghost use Rattle.std.specs.Prelude.{◌≡◌, false};
 ghost use Rattle.jpick.specs.Runs.{Heads};
 
-use crate::fields::Wanted;
-use crate::rows::append_row;
+use crate::fields::{Spare, Wanted};
+use crate::rows::put_row;
 use programs::{Channel, Failure};
 use simd_json_print::text::Text;
 use std::alloc::Allocator;
@@ -11,8 +11,8 @@ use std::io::Write;
 
 /// Writes the row of the queries themselves, as strings.
 ///
-/// Fails with `Write` if writing does, or with `Closed` in its place, after a prefix of the row,
-/// and with `Resources` if an allocation fails, before any byte.
+/// Fails with `Write` if writing does, or with `Closed` in its place, and with `Resources` if an
+/// allocation fails, after a prefix of the row.
 pub fn write_header<A: Allocator + Copy, W: Write>(
     a: A,
     wanted: &Wanted<'_>,
@@ -21,13 +21,10 @@ pub fn write_header<A: Allocator + Copy, W: Write>(
     requires { out.old.failed ≡ false }
     ensures { Heads W.contents wanted.now out.old out.new result }
 {
-    let mut row = Vec::new(a);
-    let mut spare = Vec::new(a);
-    append_row(&mut row, &mut spare, &mut [], wanted, None)?;
     let mut text = Text::<Channel<W>, 64>::new(out);
-    text.put(row.as_slice());
+    let put = put_row(&mut text, &mut Spare::new(a), &mut [], wanted, None);
     match text.finish() {
-        Ok(()) => Ok(()),
+        Ok(()) => Ok(put?),
         Err(_) => Err(Failure::of_output(out.closed(), true)),
     }
 }

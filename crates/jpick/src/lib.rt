@@ -14,11 +14,13 @@
 //!
 //! fn rows(rt: &impl AllocGlobal, lines: &[u8]) -> Vec<u8> {
 //!     let wanted = Wanted {
+//!         each: None,
 //!         queries: &[Query::Pointer("/k")],
 //!         filters: &[],
 //!         layout: Layout::Tabs,
 //!         is_raw: false,
 //!         is_pretty: false,
+//!         has_sorted_keys: false,
 //!         needs_all: false,
 //!         is_quiet: true,
 //!         longest: 65_536,
@@ -48,11 +50,14 @@ mod options;
 mod query;
 mod rows;
 mod runs;
+mod sorted;
 
 pub use fields::{Layout, Wanted};
 pub use files::{pick_each, status_by_rows};
 pub use header::write_header;
 pub use hints::Hint;
+pub use lines::Taken;
 pub use options::{Options, Unasked, asked};
 pub use query::Query;
 pub use runs::run;
+pub use sorted::{put_sorted, sorted_nodes};

@@ -1,25 +1,33 @@
 //! The lines of an input, and what is picked of them.
-ghost use Rattle.std.specs.Prelude.{◌≡◌, ◌≤◌, IfOk, OnOk};
+ghost use Rattle.std.specs.Prelude.{◌≡◌, false, is_some, IfOk, OnOk};
 ghost use Rattle.simd_json.specs.Viewed.{doc};
-ghost use Rattle.jpick.specs.Picked.{ends_early, is_hinted, naming_words, rejection_line};
-ghost use Rattle.jpick.specs.Runs.{BeginsDocument, BeginsLine, BeginsRecord, EndsRows};
-ghost use Rattle.jpick.specs.Runs.{IsRejection, IsStart, PicksValue};
-ghost use Rattle.jpick.specs.Runs.{TakesDocument, TakesLine, TakesRecord, Writes};
-ghost use Rattle.jsonl.specs.Records.{IsWhole, outcome_read};
-ghost use Rattle.programs.specs.Failures.{Begins, Ends};
+ghost use Rattle.jpick.specs.Picked.{begins_document, ends_early, naming_words, no_line};
+ghost use Rattle.jpick.specs.Picked.{rows_of, taken_by};
+ghost use Rattle.jpick.specs.Putting.{Knows, Puts, TakesDocument, TakesLine, TakesRecord};
+ghost use Rattle.jsonl.specs.Records.{IsWhole, outcome_read, rejected};
 
-use crate::conditions::meets_all;
-use crate::fields::Wanted;
-use crate::rows::append_needed;
+use crate::fields::{Spare, Wanted};
+use crate::rows::put_rows_of;
 use jsonl::{Record, Records};
 use programs::{Channel, Failure, Words, put_name, rejection_words};
 use simd_json::tape::Value;
 use simd_json::{Error, ErrorType};
-use simd_json_print::text::Text;
+use simd_json_print::text::{Target, Text};
 use std::alloc::{AllocError, Allocator};
 use std::io::{self, Write};
 
 type Ended = Result<(), Failure>;
+
+/// What a run took of its input.
+#[derive(Clone, Copy, Debug, PartialEq, Eq)]
+pub enum Taken {
+    /// Each text.
+    All,
+    /// Not those that were rejected.
+    NotAll,
+    /// The first line, which was rejected: it ends within a document. Nothing after it was taken.
+    Document,
+}
 
 /// The lines of a file so far, and the memory for those that follow.
 #[derive(Drop)]
@@ -27,15 +35,14 @@ pub struct Picker<'w, 'q, 'f, A: Allocator> {
     wanted: &'w Wanted<'q>,
     file: &'f str,
     records: Records<A>,
-    spare: Vec<u8, A>,
-    // what is not written yet
-    rows: Vec<u8, A>,
+    spare: Spare<A>,
     all_taken: bool,
+    // whether the first line begins a document
+    is_over: bool,
 }
 
 impl<'w, 'q, 'f, A: Allocator + Copy> Picker<'w, 'q, 'f, A> {
-    /// Returns a picker of no lines yet, with all memory reserved that lines need whose rows are
-    /// not longer than the lines.
+    /// Returns a picker of no lines yet, with all memory reserved that lines need.
     ///
     /// Returns an error if an allocation fails.
     pub fn new(
@@ -43,16 +50,26 @@ impl<'w, 'q, 'f, A: Allocator + Copy> Picker<'w, 'q, 'f, A> {
         wanted: &'w Wanted<'q>,
         file: &'f str,
     ) -> simd_json::Result<Picker<'w, 'q, 'f, A>>
-        ensures { IfOk result (IsStart wanted.now file.now) }
+        ensures { IfOk result (λ picker. Knows picker wanted.now file.now no_line) }
     {
+        let records = Records::new(a, wanted.longest, wanted.depth)?;
+        let mut spare = Spare::new(a);
+        spare.reserve(wanted.longest, wanted.depth)?;
         Ok(Picker {
             wanted,
             file,
-            records: Records::new(a, wanted.longest, wanted.depth)?,
-            spare: Vec::with_capacity(a, wanted.longest)?,
-            rows: Vec::with_capacity(a, wanted.longest.saturating_add(1 << 17))?,
+            records,
+            spare,
             all_taken: true,
+            is_over: false,
         })
+    }
+
+    /// Returns what is picked.
+    pub fn wanted(&self) -> &'w Wanted<'q>
+        ensures { result.now ≡ self.now.wanted.now }
+    {
+        self.wanted
     }
 
     /// Returns whether no line was rejected so far.
@@ -62,112 +79,156 @@ impl<'w, 'q, 'f, A: Allocator + Copy> Picker<'w, 'q, 'f, A> {
         self.all_taken
     }
 
-    /// Takes a line. Of one that is too long, the first bytes are enough: one more than it may
-    /// have.
-    pub fn take_line<E: Write>(&mut self, line: &mut [u8], err: &mut Channel<E>) -> Ended
-        ensures { Ends err.old err.new
-            (TakesLine E.contents self.old self.new err.old err.new line.old)
-            (BeginsLine E.contents self.old err.old err.new line.old) result }
+    /// Returns whether nothing more is to be taken, since the first line begins a document.
+    pub fn is_over(&self) -> bool
+        ensures { result ≡ self.now.is_over }
+    {
+        self.is_over
+    }
+
+    /// Returns what was taken so far.
+    pub fn taken(&self) -> Taken
+        ensures { result ≡ taken_by self.now.is_over self.now.all_taken }
+    {
+        match (self.is_over, self.all_taken) {
+            (true, _) => Taken::Document,
+            (false, true) => Taken::All,
+            (false, false) => Taken::NotAll,
+        }
+    }
+
+    /// Takes a line, unless it is over. Of one that is too long, the first bytes are enough: one more than it may
+    /// have. Before a rejected one is named, its earlier rows are written: if that fails, it is
+    /// not.
+    pub fn take_line<T: Target, const SIZE: usize, E: Write>(
+        &mut self,
+        line: &mut [u8],
+        rows: &mut Text<'_, T, SIZE>,
+        err: &mut Channel<E>,
+    ) -> Ended
+        requires before { self.old.is_over ≡ false }
+        requires sound { is_some rows.old.fault ≡ false }
+        requires rejections { err.old.failed ≡ false }
+        ensures taken { TakesLine T.state E.contents self.old self.new rows.old rows.new
+            err.old err.new line.old result }
+        ensures silent { OnOk result (err.new.failed ≡ false) }
+        ensures same_target { rows.new.target.ghost_name ≡ rows.old.target.ghost_name }
     {
         let read = self.records.next(line)?;
-        self.take(read, err)
+        self.take(read, rows, err)
     }
 
     /// Takes an input that is one document, before any line.
-    pub fn take_document<E: Write>(&mut self, input: &mut [u8], err: &mut Channel<E>) -> Ended
-        ensures { Ends err.old err.new
-            (TakesDocument E.contents self.old self.new err.old err.new input.old)
-            (BeginsDocument E.contents self.old err.old err.new input.old) result }
+    pub fn take_document<T: Target, const SIZE: usize, E: Write>(
+        &mut self,
+        input: &mut [u8],
+        rows: &mut Text<'_, T, SIZE>,
+        err: &mut Channel<E>,
+    ) -> Ended
+        requires sound { is_some rows.old.fault ≡ false }
+        requires rejections { err.old.failed ≡ false }
+        ensures taken { TakesDocument T.state E.contents self.old self.new rows.old rows.new
+            err.old err.new input.old result }
+        ensures same_target { rows.new.target.ghost_name ≡ rows.old.target.ghost_name }
     {
         let read = self.records.next_document(input)?;
-        self.take(read, err)
+        self.take(read, rows, err)
     }
 
     // Takes the last text.
-    fn take<E: Write>(&mut self, read: Record<'_, A>, err: &mut Channel<E>) -> Ended
-        requires { IsWhole self.old.records.depth read }
-        ensures { Ends err.old err.new
-            (TakesRecord E.contents self.old self.new err.old err.new (outcome_read read.entry))
-            (BeginsRecord E.contents self.old err.old err.new (outcome_read read.entry))
-            result }
+    fn take<T: Target, const SIZE: usize, E: Write>(
+        &mut self,
+        read: Record<'_, A>,
+        rows: &mut Text<'_, T, SIZE>,
+        err: &mut Channel<E>,
+    ) -> Ended
+        requires whole { IsWhole self.old.records.depth read }
+        requires sound { is_some rows.old.fault ≡ false }
+        requires rejections { err.old.failed ≡ false }
+        ensures taken { TakesRecord T.state E.contents self.old self.new rows.old rows.new
+            err.old err.new (outcome_read read.entry) result }
+        ensures silent { OnOk result (err.new.failed ≡ false) }
+        ensures same_target { rows.new.target.ghost_name ≡ rows.old.target.ghost_name }
     {
         match read {
             Record::Blank => Ok(()),
             Record::Value(tape) => {
-                self.pick(tape.as_value())?;
+                self.pick(tape.as_value(), rows)?;
                 self.records.keep(tape);
                 Ok(())
             }
-            Record::Rejected(error) => self.reject(error, err),
+            Record::Rejected(error) => self.reject(error, rows, err),
         }
     }
 
-    // Appends the rows of a value, if it is picked.
-    fn pick(&mut self, value: Value<'_, '_>) -> Result<(), AllocError>
-        ensures { OnOk result (PicksValue self.old self.new (doc value.entry)) }
+    // Puts the rows of a value.
+    fn pick<T: Target, const SIZE: usize>(
+        &mut self,
+        value: Value<'_, '_>,
+        rows: &mut Text<'_, T, SIZE>,
+    ) -> Result<(), AllocError>
+        ensures rows { Puts T.state rows.old rows.new result
+            (rows_of self.old.wanted.now (doc value.entry)) }
+        ensures same { self.new ≡ record self.old { spare = self.new.spare } }
     {
-        if !meets_all(self.wanted.filters, &value) {
-            return Ok(());
-        }
-        append_needed(&mut self.rows, &mut self.spare, self.wanted, value)?;
-        Ok(())
+        put_rows_of(rows, &mut self.spare, self.wanted, value)
     }
 
-    // Names the last text as rejected. Without an error it is too long.
-    fn reject<E: Write>(&mut self, error: Option<Error>, err: &mut Channel<E>) -> Ended
-        ensures { Ends err.old err.new
-            (IsRejection E.contents self.old self.new err.old err.new error)
-            (Begins (E.contents err.old.inner) (E.contents err.new.inner)
-            (rejection_line self.old.wanted.now self.old.file.now self.old.records.number
-            self.old.records.text error)) result }
+    // Names the last text as rejected, after its earlier rows are written, or does not if that
+    // fails. Without an error the text is too long.
+    fn reject<T: Target, const SIZE: usize, E: Write>(
+        &mut self,
+        error: Option<Error>,
+        rows: &mut Text<'_, T, SIZE>,
+        err: &mut Channel<E>,
+    ) -> Ended
+        requires sound { is_some rows.old.fault ≡ false }
+        requires rejections { err.old.failed ≡ false }
+        ensures taken { TakesRecord T.state E.contents self.old self.new rows.old rows.new
+            err.old err.new (rejected error) result }
+        ensures silent { OnOk result (err.new.failed ≡ false) }
+        ensures same_target { rows.new.target.ghost_name ≡ rows.old.target.ghost_name }
     {
         self.all_taken = false;
+        self.is_over = self.begins_document(&error);
         if self.wanted.is_quiet {
+            return Ok(());
+        }
+        rows.flush();
+        if rows.has_failed() {
             return Ok(());
         }
         let words = self.naming_words(error).map_err(|_| Failure::Resources)?;
         put_name(err, self.file, words.as_slice())
     }
 
-    // What names the last text after the name of the file, and that this may be a document.
+    // What names the last text after the name of the file, and how a document is read.
     fn naming_words(&self, error: Option<Error>) -> io::Result<Words>
         ensures { IfOk result (λ words. words.items
             ≡ naming_words self.now.wanted.now self.now.records.number self.now.records.text
             error) }
     {
-        let is_hinted = self.is_hinted(&error);
+        let begins_document = self.begins_document(&error);
         let (number, longest) = (self.records.number(), self.wanted.longest);
         let mut words = rejection_words(longest, number, self.records.text(), error)?;
-        if !is_hinted {
+        if !begins_document {
             return Ok(words);
         }
-        writeln!(words, "jpick: with -d each file is one document")?;
+        writeln!(
+            words,
+            "jpick: to read a file as one document, type: jpick -d .."
+        )?;
         Ok(words)
     }
 
-    // Whether the first line ends within a document.
-    fn is_hinted(&self, error: &Option<Error>) -> bool
-        ensures { result ≡ is_hinted self.now.wanted.now self.now.records.number error.now }
+    // Whether the last text is the first line, and ends within a document. Where rejected lines are
+    // not named it does not matter.
+    fn begins_document(&self, error: &Option<Error>) -> bool
+        ensures { result
+            ≡ begins_document self.now.wanted.now self.now.records.number error.now }
     {
-        !self.wanted.is_document && self.records.number() == 1 && ends_early(error)
-    }
-
-    /// Writes the rows that are not written yet.
-    pub fn write<W: Write>(&mut self, out: &mut Channel<W>) -> Ended
-        ensures { EndsRows self.old.all_taken out.old out.new
-            (Writes W.contents self.old self.new out.old out.new)
-            (Begins (W.contents out.old.inner) (W.contents out.new.inner) self.old.rows.items)
-            result }
-    {
-        let mut text = Text::<Channel<W>, 64>::new(out);
-        text.put(self.rows.as_slice());
-        match text.finish() {
-            Ok(()) => {
-                self.rows.clear();
-                Ok(())
-            }
-            Err(_) => Err(Failure::of_output(out.closed(), self.all_taken)),
-        }
+        let is_read_by_lines = !(self.wanted.is_document || self.wanted.is_quiet);
+        is_read_by_lines && self.records.number() == 1 && ends_early(error)
     }
 }
 

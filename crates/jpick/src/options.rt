@@ -1,9 +1,10 @@
 //! What the program's arguments ask for.
-ghost use Rattle.std.specs.Prelude.{◌≡◌, ◌++◌, ℕ, List, map, IfOk, OnOk};
+ghost use Rattle.std.specs.Prelude.{◌≡◌, ◌++◌, ℕ, List, codes, map, IfOk, OnOk};
 ghost use Rattle.std.specs.List.{AllZip};
-ghost use Rattle.clap.specs.Matches.{found_of};
-ghost use Rattle.jpick.specs.Asked.{HasOptions, IsFilterOf, IsQueryOf, begins_query, files_of};
-ghost use Rattle.jpick.specs.Asked.{first_query, is_given, is_left_out, layout_of, texts_of};
+ghost use Rattle.clap.specs.Matches.{first_value, found_of};
+ghost use Rattle.jpick.specs.Asked.{HasOptions, IsEachOf, IsFilterOf, IsQueryOf, begins_query};
+ghost use Rattle.jpick.specs.Asked.{files_of, first_query, is_given, is_left_out, layout_of};
+ghost use Rattle.jpick.specs.Asked.{texts_of};
 
 use crate::fields::{Layout, Wanted};
 use crate::query::Query;
@@ -21,7 +22,10 @@ const LONGEST: u32 = 65_536;
 
 const QUERY_HELP: &str =
     "What is printed: a JSON Pointer (RFC 6901), as /user/name, or a JSONPath (RFC 9535), as \
-     $.users[*].name; with --where or --pretty it may be left out";
+     $.users[*].name; with --where, --each or --pretty it may be left out";
+
+const EACH_HELP: &str =
+    "Print rows of each value that this selects of a line; QUERY may be left out";
 
 const AND_HELP: &str = "A further query, in a column of its own";
 
@@ -41,12 +45,14 @@ const JSON_HELP: &str = "Print each row as a JSON array";
 
 const PRETTY_HELP: &str = "Print a value over several lines";
 
+const SORT_HELP: &str = "Print the members of each object in the order of their keys";
+
 const ALL_HELP: &str = "Leave out a line where a QUERY selects nothing";
 
 const STATUS_HELP: &str = "As --all; end with status 1 if no row is printed";
 
 const WHERE_HELP: &str =
-    "Only lines where EXPR holds, as @.status >= 500 && @.level == \"error\" (RFC 9535)";
+    "Only lines, or values by --each, where EXPR holds, as @.status >= 500 && @.level == \"error\" (RFC 9535)";
 
 const QUIET_HELP: &str = "Do not name rejected lines";
 
@@ -79,6 +85,7 @@ impl<'a> Options<'a> {
         let needs_rows = is_given(matches, "exit-status");
         Ok(Options {
             wanted: Wanted {
+                each: each(arena, matches)?,
                 queries: arena.try_alloc_slice_copy(&queries)?,
                 filters: arena.try_alloc_slice_copy(&filters)?,
                 layout: layout(
@@ -88,6 +95,7 @@ impl<'a> Options<'a> {
                 ),
                 is_raw: is_given(matches, "raw"),
                 is_pretty: is_given(matches, "pretty"),
+                has_sorted_keys: is_given(matches, "sort-keys"),
                 needs_all: needs_rows || is_given(matches, "all"),
                 is_quiet: is_given(matches, "quiet"),
                 longest: matches.get_one::<u32>("limit").unwrap_or(LONGEST) as usize,
@@ -131,12 +139,14 @@ impl<'a> Options<'a> {
     }
 }
 
-// Whether the query is left out: it may be where lines are filtered, or values are printed over
-// several lines. The first word is a file then, if there is one.
+// Whether the query is left out: it may be where lines are filtered, values are printed over
+// several lines, or there are rows of each of some. The first word is a file then, if there is one.
 fn is_left_out(matches: &ArgMatches<'_>) -> bool
     ensures { result ≡ is_left_out (found_of matches.now) }
 {
-    let may_be = is_given(matches, "pretty") || matches.get_str("where").is_some();
+    let may_be = is_given(matches, "pretty")
+        || matches.get_str("where").is_some()
+        || matches.get_str("each").is_some();
     match matches.get_str("query") {
         Some(word) => may_be && !begins_query(word),
         None => may_be,
@@ -265,6 +275,17 @@ fn push_queries<'a>(
     Ok(())
 }
 
+// The query of `--each`, if that is given.
+fn each<'a>(arena: &'a Bump, matches: &ArgMatches<'a>) -> Result<Option<Query<'a>>, Unasked<'a>>
+    ensures { IfOk result (λ each.
+        IsEachOf each (first_value (found_of matches.now) (codes "each"))) }
+{
+    match matches.get_str("each") {
+        Some(text) => Ok(Some(query_named(arena, text)?)),
+        None => Ok(None),
+    }
+}
+
 // The query of a text. A pointer of more tokens than containers may be open leads nowhere.
 fn query_named<'a>(arena: &'a Bump, text: &'a str) -> Result<Query<'a>, Unasked<'a>>
     ensures { IfOk result (λ query. IsQueryOf query text.now) }
@@ -330,6 +351,7 @@ fn command<'a>(alloc: Global) -> Result<Command<'a>, Error> {
         .value_name("QUERY")
         .required_unless_present("where")?
         .required_unless_present("pretty")?
+        .required_unless_present("each")?
         .help(QUERY_HELP);
     let files = Arg::new(alloc, "file")
         .value_name("FILE")
@@ -346,8 +368,14 @@ fn command<'a>(alloc: Global) -> Result<Command<'a>, Error> {
 
 // The options that say what a row is.
 fn with_rows<'a>(alloc: Global, command: Command<'a>) -> Result<Command<'a>, Error> {
+    let each = Arg::new(alloc, "each")
+        .long("each")
+        .value_name("QUERY")
+        .allow_hyphen_values(true)
+        .help(EACH_HELP);
     Ok(
         command
+            .arg(each)?
             .arg(repeated(alloc, "and", "QUERY", AND_HELP))?
             .arg(flag(alloc, "raw", RAW_HELP).short('r'))?
             .arg(
@@ -363,6 +391,7 @@ fn with_rows<'a>(alloc: Global, command: Command<'a>) -> Result<Command<'a>, Err
                     .conflicts_with("csv")?
                     .conflicts_with("json")?,
             )?
+            .arg(flag(alloc, "sort-keys", SORT_HELP))?
             .arg(flag(alloc, "header", HEADER_HELP).conflicts_with("json")?)?,
     )
 }

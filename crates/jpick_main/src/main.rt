@@ -5,7 +5,8 @@
 use bumpalo::Bump;
 use jcheck::{Style, excerpt_at};
 use jpick::{
-    Hint, Options, Query, Unasked, Wanted, asked, pick_each, run, status_by_rows, write_header,
+    Hint, Options, Query, Taken, Unasked, Wanted, asked, pick_each, run, status_by_rows,
+    write_header,
 };
 use programs::{
     Channel, Failure, Retrying, Source, arguments, ending, fault_status, help_status, print_ending,
@@ -132,7 +133,7 @@ fn print_one_query(rt: &HostRuntime, wanted: &Wanted<'_>) {
 
 // Picks of a file, and prints on standard error why that ended early. Also returns whether a row
 // was written.
-fn pick_file(rt: &HostRuntime, wanted: &Wanted<'_>, file: &str) -> (Result<bool, Failure>, bool) {
+fn pick_file(rt: &HostRuntime, wanted: &Wanted<'_>, file: &str) -> (Result<Taken, Failure>, bool) {
     let Ok(name) = shown(rt.alloc(), file) else {
         let _status = out_of_memory(rt);
         return (Err(Failure::Resources), false);
@@ -154,7 +155,8 @@ fn pick_file(rt: &HostRuntime, wanted: &Wanted<'_>, file: &str) -> (Result<bool,
         let hint = file_hint(file, e.kind());
         let _ = eprintln!(rt; "jpick: {name}: {e}{hint}");
     }
-    print_ending(rt, "jpick", &ended, out.fault(), err.fault());
+    let all_taken = ended.map(|taken| taken == Taken::All);
+    print_ending(rt, "jpick", &all_taken, out.fault(), err.fault());
     (ended, out.into_inner().has_written())
 }
 

@@ -10,6 +10,7 @@ mod counts;
 mod lines;
 mod options;
 mod picks;
+mod sorted;
 
 type Tested = std::result::Result<(), Fail>;
 

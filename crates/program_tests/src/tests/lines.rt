@@ -1,9 +1,9 @@
 //! The lines of a reader, and how a run over them ends.
 use crate::tests::{Blocks, Interrupted, Tested, in_blocks};
 use programs::{
-    Channel, Event, Failure, Lines, Retrying, Source, ending, put_name, read_all, shown,
+    Channel, Event, Failure, Lines, Opener, Retrying, Source, ending, put_name, read_all, shown,
 };
-use std::io::{ErrorKind, Read};
+use std::io::{self, ErrorKind, Read};
 
 // An input, and its lines, of at most 3 bytes each: of longer ones the first 4.
 const CUT: [(&[u8], &[&[u8]]); 5] = [
@@ -54,6 +54,66 @@ fn sources_give_all_bytes(rt: HostRuntime) -> Tested {
         assert!(rt; source.fault().is_none());
     }
     Ok(())
+}
+
+// A folder with one file, which gives its bytes a few at a time.
+#[derive(Drop)]
+struct Folder<'a> {
+    name: &'a str,
+    bytes: &'a [u8],
+    size: usize,
+}
+
+impl<'a> Opener for Folder<'a> {
+    ghost use Rattle.std.specs.Prelude.{None};
+
+    type File = Blocks<'a>;
+
+    ghost held = { λ _ _. None };
+
+    fn open_file(&self, name: &str) -> io::Result<Blocks<'a>> {
+        if name == self.name {
+            Ok(in_blocks(self.bytes, self.size))
+        } else {
+            Err(io::Error::from(ErrorKind::NotFound))
+        }
+    }
+}
+
+// A file that is named is read to its end, and not standard input.
+#[test]
+fn files_are_read_to_their_ends(rt: HostRuntime) -> Tested {
+    let bytes = b"{\"k\":1}\n[1,]\n{\"k\":2}".as_slice();
+    for size in 1..24 {
+        let folder = Folder {
+            name: "f",
+            bytes,
+            size,
+        };
+        let mut source = Source::new(&folder, in_blocks(b"standard input", size), "f");
+        let mut read = Vec::new(rt.alloc());
+        source.read_to_end(&mut read)?;
+        assert_eq!(rt; read.as_slice(), bytes);
+        assert_eq!(rt; source.read(&mut [0; 8])?, 0);
+        assert!(rt; source.fault().is_none());
+    }
+    Ok(())
+}
+
+// One that can't be opened is not empty: its fault names it, at each read.
+#[test]
+fn files_that_do_not_open_are_named(rt: HostRuntime) {
+    let folder = Folder {
+        name: "f",
+        bytes: b"a",
+        size: 1,
+    };
+    let mut source = Source::new(&folder, in_blocks(b"standard input", 3), "g");
+    for _ in 0..2 {
+        assert!(rt; source.read(&mut [0; 8]).is_err());
+        let kept = source.fault().map(|(name, e)| (name, e.kind()));
+        assert_eq!(rt; kept, Some(("g", ErrorKind::NotFound)));
+    }
 }
 
 // A read that fails is kept, with the name.

@@ -1,7 +1,7 @@
 //! What the arguments of the programs ask for, and how files are picked of in turn.
 use crate::tests::Tested;
 use bumpalo::Bump;
-use jpick::{Hint, Layout, Query, Unasked, asked, pick_each, status_by_rows};
+use jpick::{Hint, Layout, Query, Taken, Unasked, asked, pick_each, status_by_rows};
 use log_report::Selector;
 use log_report::Selector::Key;
 use programs::Failure;
@@ -159,6 +159,74 @@ fn a_depth_is_read(rt: HostRuntime) -> Tested {
             Err(_) => assert!(rt; false),
         }
     }
+    Ok(())
+}
+
+// What jcheck is asked for.
+#[test]
+fn checks_are_asked_for(rt: HostRuntime) -> Tested {
+    let rows: [(&[&str], usize, bool, Option<bool>, &[&str]); 4] = [
+        (&[], 1024, false, None, &["-"]),
+        (&["--color", "auto", "f"], 1024, false, None, &["f"]),
+        (
+            &["--color=always", "--depth", "0"],
+            0,
+            false,
+            Some(true),
+            &["-"],
+        ),
+        (
+            &["--lines", "f", "-", "--depth=007", "--color", "never", "g"],
+            7,
+            true,
+            Some(false),
+            &["f", "-", "g"],
+        ),
+    ];
+    for (arguments, depth, has_lines, color, files) in rows {
+        let words = words(rt.alloc(), arguments)?;
+        match jcheck::asked(rt.alloc(), words.as_slice()) {
+            Ok(options) => {
+                assert_eq!(rt; options.depth(), depth);
+                assert_eq!(rt; (options.has_lines(), options.color()), (has_lines, color));
+                assert_eq!(rt; options.files(), files);
+            }
+            Err(_) => assert!(rt; false),
+        }
+    }
+    Ok(())
+}
+
+// How log_report counts and prints, and how long a line may be.
+#[test]
+fn counts_are_asked_for(rt: HostRuntime) -> Tested {
+    let rows: [(&[&str], bool, u32, usize); 3] = [
+        (&["a"], false, 1024, 65_536),
+        (&["a", "--tsv", "--values", "3"], true, 3, 65_536),
+        (&["--longest=7", "a"], false, 1024, 7),
+    ];
+    for (arguments, is_tsv, values, longest) in rows {
+        let words = words(rt.alloc(), arguments)?;
+        match log_report::asked(rt.alloc(), words.as_slice()) {
+            Ok(options) => {
+                let wanted = options.wanted();
+                assert_eq!(rt; (wanted.is_tsv, wanted.values), (is_tsv, values));
+                assert_eq!(rt; wanted.longest, longest);
+            }
+            Err(_) => assert!(rt; false),
+        }
+    }
+    Ok(())
+}
+
+// What jcheck prints where an allocation fails.
+#[test]
+fn want_of_memory_is_said(rt: HostRuntime) -> Tested {
+    let failure = jcheck::Failure::of_input(None);
+    assert_eq!(rt;
+        format!(in rt.alloc(); "{failure}")?.as_str(),
+        "out of memory"
+    );
     Ok(())
 }
 
@@ -386,11 +454,11 @@ fn wrong_places_are_named(rt: HostRuntime) -> Tested {
         ),
         (&["/a", "--where="], "", "", 0, PathExpected::Test),
         (
-            &["/a", "--where", "match(@.b, 'c')"],
+            &["/a", "--where", "match(@.b)"],
             "",
-            "match(@.b, 'c')",
-            0,
-            PathExpected::WithoutPattern,
+            "match(@.b)",
+            9,
+            PathExpected::Comma,
         ),
     ];
     for (arguments, path, condition, index, expected) in rows {
@@ -466,11 +534,13 @@ fn hints_are_given(rt: HostRuntime) -> Tested {
     Ok(())
 }
 
-// Where lines are filtered, or values are printed over several lines, the query may be left out:
-// the first word is a file, if it is no query.
+// Where lines are filtered, values are printed over several lines, or there are rows of each of some,
+// the query may be left out: the first word is a file, if it is no query.
 #[test]
 fn queries_are_left_out(rt: HostRuntime) -> Tested {
-    let rows: [(&[&str], &[&str], &[&str]); 9] = [
+    let rows: [(&[&str], &[&str], &[&str]); 11] = [
+        (&["--each", "$.a[*]", "f"], &[""], &["f"]),
+        (&["--each=/a", "/b", "f"], &["/b"], &["f"]),
         (&["--pretty"], &[""], &["-"]),
         (&["-d", "--pretty", "f"], &[""], &["f"]),
         (&["--where", "@.a"], &[""], &["-"]),
@@ -546,7 +616,7 @@ fn any_depth_is_taken(rt: HostRuntime) -> Tested {
 }
 
 // How many files are picked of, and the status, where their runs return these in turn.
-fn picked(results: [Result<bool, Failure>; 3]) -> (usize, u8) {
+fn picked(results: [Result<Taken, Failure>; 3]) -> (usize, u8) {
     let mut count = 0usize;
     let status = pick_each(
         |_file| {
@@ -559,10 +629,10 @@ fn picked(results: [Result<bool, Failure>; 3]) -> (usize, u8) {
     (count, status)
 }
 
-// A closed output alone skips the files after it.
+// A closed output skips the files after it, and so does a document in place of lines.
 #[test]
 fn files_are_picked_in_turn(rt: HostRuntime) {
-    let (clean, rejected, unread) = (Ok(true), Ok(false), Err(Failure::Read));
+    let (clean, rejected, unread) = (Ok(Taken::All), Ok(Taken::NotAll), Err(Failure::Read));
     assert_eq!(rt; picked([clean, clean, clean]), (3, 0));
     assert_eq!(rt; picked([rejected, clean, clean]), (3, 1));
     assert_eq!(rt; picked([clean, unread, rejected]), (3, 3));
@@ -577,4 +647,6 @@ fn files_are_picked_in_turn(rt: HostRuntime) {
         (1, 1)
     );
     assert_eq!(rt; picked([unread, Err(Failure::Closed(true)), clean]), (2, 3));
+    assert_eq!(rt; picked([rejected, Ok(Taken::Document), clean]), (2, 2));
+    assert_eq!(rt; picked([unread, Ok(Taken::Document), clean]), (2, 3));
 }

@@ -1,21 +1,23 @@
 //! Runs over lines, blocks and failures.
 use crate::tests::{Blocks, FAULTS, Full, Hungry, Tested, failing, in_blocks, many_lines};
 use bumpalo::Bump;
-use jpick::{Layout, Query, Wanted, run};
+use jpick::{Layout, Query, Taken, Wanted, run};
 use linked_list_allocator::LocalHeap;
 use programs::{Channel, Failure};
 use simd_json_path::{Choice, Filter, Path, PathError, Segment, Selector};
 use std::alloc::Global;
-use std::io::ErrorKind;
+use std::io::{self, ErrorKind, Write};
 
 // What the queries select of lines of at most ten bytes.
 fn wanted<'a>(queries: &'a [Query<'a>], layout: Layout) -> Wanted<'a> {
     Wanted {
+        each: None,
         queries,
         filters: &[],
         layout,
         is_raw: false,
         is_pretty: false,
+        has_sorted_keys: false,
         needs_all: false,
         is_quiet: false,
         longest: 10,
@@ -27,7 +29,7 @@ fn wanted<'a>(queries: &'a [Query<'a>], layout: Layout) -> Wanted<'a> {
 // What a run leaves.
 #[derive(Drop)]
 struct Ran {
-    result: Result<bool, Failure>,
+    result: Result<Taken, Failure>,
     rows: Vec<u8>,
     rejections: Vec<u8>,
 }
@@ -42,6 +44,10 @@ fn run_by(alloc: Global, wanted: &Wanted<'_>, size: usize, input: &[u8]) -> Ran 
         rows: out.into_inner(),
         rejections: rejections.into_inner(),
     }
+}
+
+fn ended(all_taken: bool) -> Result<Taken, Failure> {
+    Ok(if all_taken { Taken::All } else { Taken::NotAll })
 }
 
 // An input, its rows, the lines that name rejected ones, and whether all lines were taken.
@@ -86,56 +92,81 @@ fn lines_are_picked_however_they_are_cut(rt: HostRuntime) {
     for (input, picked, rejections, all_taken) in rows {
         for size in 1..24 {
             let ran = run_by(rt.alloc(), &wanted, size, input);
-            assert_eq!(rt; ran.result, Ok(all_taken));
+            assert_eq!(rt; ran.result, ended(all_taken));
             assert_eq!(rt; ran.rows.as_slice(), picked);
             assert_eq!(rt; ran.rejections.as_slice(), rejections);
         }
     }
 }
 
-const HINT: &str = "jpick: with -d each file is one document\n";
+const HINT: &str = "jpick: to read a file as one document, type: jpick -d ..\n";
 
-// Where the first line ends within a document, the name says that the file may be one.
+// Where the first line ends within a document, nothing after it is taken, and its name is followed by
+// how a document is read, unless rejected lines are not named.
 #[test]
-fn documents_are_hinted_at(rt: HostRuntime) -> Tested {
-    let rows: [(&[u8], &str, &str); 5] = [
+fn documents_end_the_run(rt: HostRuntime) -> Tested {
+    let rows: [(&[u8], Taken, &str, &str); 6] = [
         (
-            b"{\n \"k\":1}\n",
+            b"{\n \"k\":1}\n{\"k\":2}\n",
+            Taken::Document,
             "f:1:1: the input ends after this, within the object that begins at 1:1 [Syntax]\n",
-            "f:2:5: more text after the document [TrailingData]\n",
+            "2\n",
         ),
         (
             b"[1,\n[2,\n",
+            Taken::Document,
             "f:1:3: the input ends after this, within the array that begins at 1:1 [Syntax]\n",
-            "f:2:3: the input ends after this, within the array that begins at 2:1 [Syntax]\n",
+            "",
         ),
         (
-            b"\"\n[2,\n",
+            b"[1,",
+            Taken::Document,
+            "f:1:3: the input ends after this, within the array that begins at 1:1 [Syntax]\n",
+            "",
+        ),
+        (
+            b"\"\n{\"k\":1}\n",
+            Taken::NotAll,
             "f:1:1: the string that begins here has no end [Syntax]\n",
-            "f:2:3: the input ends after this, within the array that begins at 2:1 [Syntax]\n",
+            "1\n",
         ),
         (
-            b"\n[2,",
+            b"\n[2,\n{\"k\":1}",
+            Taken::NotAll,
             "f:2:3: the input ends after this, within the array that begins at 2:1 [Syntax]\n",
-            "",
+            "1\n",
         ),
         (
-            b"[1,]",
+            b"[1,]\n{\"k\":1}",
+            Taken::NotAll,
             "f:1:4: expected a value, found `]` [InternalError]\n",
-            "",
+            "1\n",
         ),
     ];
-    let wanted = wanted(&[Query::Pointer("/k")], Layout::Tabs);
-    for (input, first, rest) in rows {
-        let ran = run_by(rt.alloc(), &wanted, 16, input);
-        let hint = if first.contains("1:1: the input") || first.contains("1:3: the input") {
-            HINT
-        } else {
-            ""
-        };
-        let named = format!(in rt.alloc(); "{first}{hint}{rest}")?;
-        assert_eq!(rt; ran.result, Ok(false));
-        assert_eq!(rt; String::from_utf8(ran.rejections)?.as_str(), named.as_str());
+    let mut wanted = wanted(&[Query::Pointer("/k")], Layout::Tabs);
+    for (input, taken, name, rows) in rows {
+        for size in 1..24 {
+            let is_document = taken == Taken::Document;
+            wanted.is_quiet = false;
+            let ran = run_by(rt.alloc(), &wanted, size, input);
+            let hint = if is_document { HINT } else { "" };
+            let named = format!(in rt.alloc(); "{name}{hint}")?;
+            assert_eq!(rt; ran.result, Ok(taken));
+            assert_eq!(rt;
+                ran.rows.as_slice(),
+                if is_document {
+                    b"".as_slice()
+                } else {
+                    rows.as_bytes()
+                }
+            );
+            assert_eq!(rt; String::from_utf8(ran.rejections)?.as_str(), named.as_str());
+            wanted.is_quiet = true;
+            let ran = run_by(rt.alloc(), &wanted, size, input);
+            assert_eq!(rt; ran.result, Ok(Taken::NotAll));
+            assert_eq!(rt; ran.rows.as_slice(), rows.as_bytes());
+            assert_eq!(rt; ran.rejections.len(), 0);
+        }
     }
     Ok(())
 }
@@ -170,7 +201,7 @@ fn documents_are_picked(rt: HostRuntime) {
     for (input, picked, rejections, all_taken) in rows {
         for size in 1..24 {
             let ran = run_by(rt.alloc(), &wanted, size, input);
-            assert_eq!(rt; ran.result, Ok(all_taken));
+            assert_eq!(rt; ran.result, ended(all_taken));
             assert_eq!(rt; ran.rows.as_slice(), picked);
             assert_eq!(rt; ran.rejections.as_slice(), rejections);
         }
@@ -183,7 +214,7 @@ fn quiet_runs_name_nothing(rt: HostRuntime) {
     let mut wanted = wanted(&[Query::Pointer("/k")], Layout::Tabs);
     wanted.is_quiet = true;
     let ran = run_by(rt.alloc(), &wanted, 64, b"[1,]\n{\"k\":1}\n12345678901");
-    assert_eq!(rt; ran.result, Ok(false));
+    assert_eq!(rt; ran.result, Ok(Taken::NotAll));
     assert_eq!(rt; ran.rows.as_slice(), b"1\n".as_slice());
     assert_eq!(rt; ran.rejections.len(), 0);
 }
@@ -228,7 +259,7 @@ fn rows_have_layouts(rt: HostRuntime) {
         wanted.is_raw = is_raw;
         wanted.longest = 100;
         let ran = run_by(rt.alloc(), &wanted, 64, input);
-        assert_eq!(rt; ran.result, Ok(true));
+        assert_eq!(rt; ran.result, Ok(Taken::All));
         assert_eq!(rt; ran.rows.as_slice(), row);
     }
 }
@@ -281,7 +312,7 @@ fn paths_are_rows_and_arrays(rt: HostRuntime) -> Tested {
         let mut wanted = wanted(queries.as_slice(), layout);
         wanted.longest = 100;
         let ran = run_by(rt.alloc(), &wanted, 16, input);
-        assert_eq!(rt; ran.result, Ok(true));
+        assert_eq!(rt; ran.result, Ok(Taken::All));
         assert_eq!(rt; ran.rows.as_slice(), picked);
     }
     Ok(())
@@ -303,7 +334,7 @@ fn paths_have_any_number_of_segments(rt: HostRuntime) -> Tested {
     wanted.longest = 23;
     let input = b"[[[[[[[[[1,[2]]]]]]]]]]\n[[3]]\n".as_slice();
     let ran = run_by(rt.alloc(), &wanted, 16, input);
-    assert_eq!(rt; ran.result, Ok(true));
+    assert_eq!(rt; ran.result, Ok(Taken::All));
     assert_eq!(rt; ran.rows.as_slice(), b"1\n[2]\n".as_slice());
     Ok(())
 }
@@ -334,7 +365,7 @@ fn paths_of_names_are_singular(rt: HostRuntime) {
         let queries = [Query::Path("by hand", path)];
         let wanted = wanted(queries.as_slice(), Layout::Tabs);
         let ran = run_by(rt.alloc(), &wanted, 16, b"{\"k\":1}\n[2]\n");
-        assert_eq!(rt; ran.result, Ok(true));
+        assert_eq!(rt; ran.result, Ok(Taken::All));
         assert_eq!(rt; ran.rows.as_slice(), picked);
     }
 }
@@ -357,7 +388,7 @@ fn filters_pass_lines_over(rt: HostRuntime) -> Tested {
         16,
         b"{\"k\":1}\n{}\n[]\n{\"k\":[]}\n[1,]\n{\"k\":2}\n",
     );
-    assert_eq!(rt; ran.result, Ok(false));
+    assert_eq!(rt; ran.result, Ok(Taken::NotAll));
     assert_eq!(rt; ran.rows.as_slice(), b"1\n[]\n".as_slice());
     Ok(())
 }
@@ -398,7 +429,7 @@ fn values_are_printed_over_lines(rt: HostRuntime) -> Tested {
         wanted.is_raw = is_raw;
         wanted.longest = 16;
         let ran = run_by(rt.alloc(), &wanted, 16, input);
-        assert_eq!(rt; ran.result, Ok(true));
+        assert_eq!(rt; ran.result, Ok(Taken::All));
         assert_eq!(rt; ran.rows.as_slice(), picked);
     }
     Ok(())
@@ -410,7 +441,7 @@ fn all_values_are_needed(rt: HostRuntime) {
     let mut wanted = wanted(&[Query::Pointer("/0"), Query::Pointer("/1")], Layout::Csv);
     wanted.needs_all = true;
     let ran = run_by(rt.alloc(), &wanted, 16, b"[1,2]\n[1]\n{}\n[null,0]\n");
-    assert_eq!(rt; ran.result, Ok(true));
+    assert_eq!(rt; ran.result, Ok(Taken::All));
     assert_eq!(rt; ran.rows.as_slice(), b"1,2\n,0\n".as_slice());
 }
 
@@ -424,7 +455,7 @@ const REJECTIONS: &[u8] =
 
 #[derive(Drop)]
 struct Stopped {
-    result: Result<bool, Failure>,
+    result: Result<Taken, Failure>,
     out: Channel<Full>,
     rejections: Channel<Full>,
 }
@@ -512,6 +543,72 @@ fn a_failed_rejection_ends_the_run(rt: HostRuntime) {
     }
 }
 
+// Before a rejected line is named the rows before it are written, though more of its block is left.
+#[test]
+fn rows_are_written_before_a_rejection_is_named(rt: HostRuntime) {
+    let mut reader = Channel::new(TWO_REJECTED);
+    let mut out = Channel::new(Vec::new(rt.alloc()));
+    let mut rejections = failing(rt.alloc(), 0, None);
+    let wanted = wanted(&[Query::Pointer("/k")], Layout::Tabs);
+    let result = run(
+        rt.alloc(),
+        &wanted,
+        "f",
+        &mut reader,
+        &mut out,
+        &mut rejections,
+    );
+    assert_eq!(rt; result, Err(Failure::Name));
+    assert_eq!(rt; out.into_inner().as_slice(), b"1\n".as_slice());
+}
+
+// Counts what it is given.
+#[derive(Drop)]
+struct Counted {
+    bytes: usize,
+    rows: usize,
+}
+
+impl Write for Counted {
+    fn write(&mut self, buf: &[u8]) -> io::Result<usize> {
+        self.bytes += buf.len();
+        self.rows += buf.iter().filter(|byte| **byte == b'\n').count();
+        Ok(buf.len())
+    }
+
+    fn flush(&mut self) -> io::Result<()> {
+        Ok(())
+    }
+}
+
+// Of 59 nested arrays each three are selected: 32,509 rows of 1.1 MB, in a heap of 64 kB. So is their
+// array, as a cell of its own.
+#[test]
+fn rows_take_no_memory(rt: HostRuntime) -> Tested {
+    let mut line = Vec::new(rt.alloc());
+    line.resize(60, b'[')?;
+    line.resize(120, b']')?;
+    let arena = Bump::new(rt.alloc());
+    let queries = [query(&arena, "$..*..*..*")?, Query::Pointer("")];
+    for (count, layout, rows, bytes) in [
+        (1, Layout::Tabs, 32_509, 1_007_779),
+        (2, Layout::Tabs, 1, 1_007_779 + 123),
+        (2, Layout::Csv, 1, 1_007_779 + 127),
+    ] {
+        let heap = LocalHeap::new(rt.alloc(), 1 << 16)?;
+        let mut wanted = wanted(&queries[..count], layout);
+        wanted.longest = 120;
+        let mut out = Channel::new(Counted { bytes: 0, rows: 0 });
+        let mut reader = Channel::new(line.as_slice());
+        let mut rejections = Channel::new(Vec::new(rt.alloc()));
+        let result = run(&heap, &wanted, "f", &mut reader, &mut out, &mut rejections);
+        assert_eq!(rt; result, Ok(Taken::All));
+        let out = out.into_inner();
+        assert_eq!(rt; (out.rows, out.bytes), (rows, bytes));
+    }
+    Ok(())
+}
+
 // After the first read every allocation would fail, and none is made.
 #[test]
 fn no_memory_is_taken_after_the_start(rt: HostRuntime) -> Tested {
@@ -529,7 +626,7 @@ fn no_memory_is_taken_after_the_start(rt: HostRuntime) -> Tested {
     let mut wanted = wanted(queries.as_slice(), Layout::Tsv);
     wanted.longest = 4096;
     let result = run(&heap, &wanted, "f", &mut reader, &mut out, &mut rejections);
-    assert_eq!(rt; result, Ok(false));
+    assert_eq!(rt; result, Ok(Taken::NotAll));
     let rows = out.into_inner();
     assert!(rt; rows.starts_with(b"[[\"\\\\n\"]]\t[\"0\"]\n\t[\"    "));
     assert_eq!(rt;
@@ -587,7 +684,7 @@ fn documents_that_fail(rt: HostRuntime) -> Tested {
     }
     let (mut has_failed, mut has_run) = (false, false);
     for size in 1..96 {
-        let heap = LocalHeap::new(rt.alloc(), size << 13)?;
+        let heap = LocalHeap::new(rt.alloc(), size << 8)?;
         let mut reader = Channel::new(input);
         let mut out = Channel::new(Vec::new(rt.alloc()));
         let mut rejections = Channel::new(Vec::new(rt.alloc()));
@@ -599,11 +696,106 @@ fn documents_that_fail(rt: HostRuntime) -> Tested {
             assert_eq!(rt; rows.len(), 0);
         } else {
             has_run = true;
-            assert_eq!(rt; result, Ok(true));
+            assert_eq!(rt; result, Ok(Taken::All));
             assert_eq!(rt; rows.as_slice(), b"[[1],[2]]\n".as_slice());
         }
     }
     assert!(rt; has_failed && has_run);
+    Ok(())
+}
+
+// Of a document that nests deeper than a line could, what is kept of open containers and the text of
+// a column are allocated: in heaps of growing size each allocation fails in some, and no row is
+// written then.
+#[test]
+fn memory_for_deep_documents_fails(rt: HostRuntime) -> Tested {
+    let mut input = Vec::new(rt.alloc());
+    input.resize(200, b'[')?;
+    input.resize(400, b']')?;
+    for (layout, has_sorted_keys) in [
+        (Layout::Tabs, false),
+        (Layout::Tsv, false),
+        (Layout::Tsv, true),
+    ] {
+        let mut wanted = wanted(&[Query::Pointer("")], layout);
+        wanted.is_document = true;
+        wanted.has_sorted_keys = has_sorted_keys;
+        let mut failures = 0usize;
+        let mut has_run = false;
+        for size in 1..240 {
+            let heap = LocalHeap::new(rt.alloc(), size << 8)?;
+            let mut reader = Channel::new(input.as_slice());
+            let mut out = Channel::new(Vec::new(rt.alloc()));
+            let mut rejections = Channel::new(Vec::new(rt.alloc()));
+            let result = run(&heap, &wanted, "f", &mut reader, &mut out, &mut rejections);
+            let rows = out.into_inner();
+            if result == Ok(Taken::All) {
+                has_run = true;
+                assert_eq!(rt; rows.len(), 401);
+                assert!(rt; rows.starts_with(input.as_slice()));
+            } else {
+                assert!(rt; !has_run);
+                failures += 1;
+                assert_eq!(rt; result, Err(Failure::Resources));
+                assert_eq!(rt; rows.len(), 0);
+            }
+        }
+        assert!(rt; has_run && failures > 20);
+    }
+    Ok(())
+}
+
+// Rows of each value that a query selects: tests and queries are of that value.
+#[test]
+fn rows_are_of_each_value(rt: HostRuntime) -> Tested {
+    let input =
+        b"{\"u\":[{\"n\":\"a\",\"g\":1},{\"n\":\"b\"},{\"g\":[2]}],\"v\":{\"g\":3}}\n{\"u\":[]}\n7\n".as_slice();
+    let rows: [(&str, &[&str], Option<&str>, bool, &str); 12] = [
+        (
+            "$.u[*]",
+            &["/n", "/g"],
+            None,
+            false,
+            "\"a\"\t1\n\"b\"\t\n\t[2]\n",
+        ),
+        ("$.u[*]", &["/n", "/g"], None, true, "\"a\"\t1\n"),
+        ("$.u[*]", &["/n"], Some("@.g"), false, "\"a\"\n\n"),
+        ("$.u[*]", &["/n"], Some("@.g == 1"), false, "\"a\"\n"),
+        ("$.u[*]", &["$.*"], None, false, "\"a\"\n1\n\"b\"\n[2]\n"),
+        (
+            "$.u[*]",
+            &["", "$..*"],
+            Some("@.n == 'b'"),
+            false,
+            "{\"n\":\"b\"}\t[\"b\"]\n",
+        ),
+        ("$..g", &[""], None, false, "1\n[2]\n3\n"),
+        ("$", &["/v/g"], None, false, "3\n\n\n"),
+        ("", &["/v/g"], None, false, "3\n\n\n"),
+        ("/u", &["$[*].n"], None, false, "\"a\"\n\"b\"\n"),
+        ("/u/1", &["/n"], None, false, "\"b\"\n"),
+        ("/w", &["/n"], None, false, ""),
+    ];
+    let arena = Bump::new(rt.alloc());
+    for (each, texts, filter, needs_all, expected) in rows {
+        let mut queries = Vec::new(rt.alloc());
+        for text in texts {
+            queries.push(query(&arena, text)?)?;
+        }
+        let mut filters = Vec::new(rt.alloc());
+        if let Some(text) = filter {
+            filters.push(Filter::new(&arena, text)?)?;
+        }
+        let mut wanted = wanted(queries.as_slice(), Layout::Tabs);
+        wanted.each = Some(query(&arena, each)?);
+        wanted.filters = filters.as_slice();
+        wanted.needs_all = needs_all;
+        wanted.longest = 100;
+        let ran = run_by(rt.alloc(), &wanted, 16, input);
+        assert_eq!(rt; ran.result, Ok(Taken::All));
+        assert_eq!(rt; String::from_utf8(ran.rows)?.as_str(), expected);
+        assert_eq!(rt; ran.rejections.len(), 0);
+    }
     Ok(())
 }
 
@@ -615,7 +807,7 @@ fn too_little_memory_ends_the_run(rt: HostRuntime) -> Tested {
     let wanted = wanted(&[Query::Pointer("/k")], Layout::Tabs);
     let (mut has_failed, mut has_run) = (false, false);
     for size in 1..96 {
-        let heap = LocalHeap::new(rt.alloc(), size << 13)?;
+        let heap = LocalHeap::new(rt.alloc(), size << 8)?;
         let mut reader = Channel::new(input);
         let mut out = Channel::new(Vec::new(rt.alloc()));
         let mut rejections = Channel::new(Vec::new(rt.alloc()));
@@ -627,7 +819,7 @@ fn too_little_memory_ends_the_run(rt: HostRuntime) -> Tested {
             assert_eq!(rt; rows.len() + rejections.len(), 0);
         } else {
             has_run = true;
-            assert_eq!(rt; result, Ok(false));
+            assert_eq!(rt; result, Ok(Taken::NotAll));
             assert_eq!(rt; rows.as_slice(), b"1\n".as_slice());
             assert_eq!(rt;
                 rejections.as_slice(),

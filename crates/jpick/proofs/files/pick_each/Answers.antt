@@ -10,7 +10,7 @@ loop-file-preserved g c = let none : Bor (List ℕ) = record { ref_ptr = (0, 0);
   one-more (goal.F-step g) skips_files status_after 0 c.args.pick c.args.files.now c.loop-file.pick c.pick-picked.new.self _ _ _
       c.pick-picked.result c.loop-file.greatest c.max-greatest.result
       (cut-at c.args.files.now c.loop-file.file-index none c.loop-file-test.true) c.pick-picked.ensures
-      (sym c.skips_files.ensures ∙ c.if-skips_files.false) (c.max-greatest.ensures ∙ ap (max c.loop-file.greatest) c.ending.ensures.0)
+      (sym c.skips_files.ensures ∙ c.if-skips_files.false) (c.max-greatest.ensures ∙ ap (max c.loop-file.greatest) c.status.ensures)
       c.loop-file.invariant.1,
 )
 
@@ -20,7 +20,7 @@ returns-then-skips_files g c =
     at-close (goal.F-step g) skips_files status_after 0 c.args.pick c.args.files.now c.loop-file.pick c.pick-picked.new.self _ _ _
     c.pick-picked.result c.loop-file.greatest c.max-greatest.result
     (cut-at c.args.files.now c.loop-file.file-index none c.loop-file-test.true) c.pick-picked.ensures
-    (sym c.skips_files.ensures ∙ c.if-skips_files.true) (c.max-greatest.ensures ∙ ap (max c.loop-file.greatest) c.ending.ensures.0)
+    (sym c.skips_files.ensures ∙ c.if-skips_files.true) (c.max-greatest.ensures ∙ ap (max c.loop-file.greatest) c.status.ensures)
     c.loop-file.invariant.1
 
 pub returns : goal.returns

@@ -1,20 +1,20 @@
-use Rattle.std.proofs.Common.{ap, cond, subst, sym}
-use Rattle.jpick.specs.Picked.{picked_document, picked_lines}
-use Rattle.jpick.specs.Runs.{PicksBy}
+use Rattle.std.proofs.Common.{◌≡◌, rules, subst}
+use Rattle.std.specs.Prelude.{IfOk}
+use Rattle.programs.proofs.Calls.{failed-as, mapped}
+use Rattle.programs.specs.declared.failure.Failure.TheVariants.{Resources}
+use Rattle.jpick.specs.Picked.{no_line}
+use Rattle.jpick.specs.Putting.{Knows}
+use Rattle.jpick.proofs.Ended.{nothing-taken}
 use Rattle.jpick.proofs.runs.run.Goals as goal
 
-pub returns-then-wanted : goal.returns-then-wanted
-returns-then-wanted g c =
-    let w = c.args.wanted.now in
-    let file = c.args.file.now in
-    subst (λ picked. PicksBy w file picked g.R.Read.remaining g.W.Write.contents g.E.Write.contents c.args.reader.now
-    c.pick_document.new.reader c.args.out.now c.pick_document.new.out c.args.rejections.now c.pick_document.new.rejections
-    c.pick_document.result) (ap (λ b. cond b (picked_document w file) (picked_lines w file)) (sym c.if-wanted.true)) c.pick_document.ensures
+pub returns-in_err-picker : goal.returns-in_err-picker
+returns-in_err-picker g c =
+    let failed = failed-as c.new.result c.map_err.result _ (λ e. e ≡ Resources) _ c.map_err.ensures.cases c.in_err-picker.was
+    (λ e d h. search rules) in
+    nothing-taken _ _ _ _ _ _ _ _ c.from_residual.result _ c.from_residual.ensures.1 failed.0 c.requires.reader c.requires.out
+    c.requires.rejections
 
 pub returns : goal.returns
 returns g c =
-    let w = c.args.wanted.now in
-    let file = c.args.file.now in
-    subst (λ picked. PicksBy w file picked g.R.Read.remaining g.W.Write.contents g.E.Write.contents c.args.reader.now
-    c.pick_lines.new.reader c.args.out.now c.pick_lines.new.out c.args.rejections.now c.pick_lines.new.rejections
-    c.pick_lines.result) (ap (λ b. cond b (picked_document w file) (picked_lines w file)) (sym c.if-wanted.false)) c.pick_lines.ensures
+    c.write_rows.ensures c.args.wanted.now c.args.file.now (subst (λ r. IfOk r (λ picker. Knows picker c.args.wanted.now c.args.file.now no_line))
+    (mapped c.new.result c.map_err.result c.in_ok-picker.picker _ c.map_err.ensures.cases c.in_ok-picker.was) c.new.ensures)

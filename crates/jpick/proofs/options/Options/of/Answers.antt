@@ -15,6 +15,7 @@ returns c =
     subst (λ qs. AllZip IsQueryOf qs []) (sym c.new-queries.ensures.items) tt in
     let both = c.in_ok-push_queries-2.ensures _ (c.in_ok-push_queries.ensures [] start) in
     record {
+      each = c.in_ok-each.ensures;
       queries = subst (λ qs. AllZip IsQueryOf qs (query ++ and)) (sym (c.in_ok-try_alloc_slice_copy.ensures ∙ c.deref.ensures.value))
           (subst (AllZip IsQueryOf c.push_queries-2.new.queries.items)
           (ap (λ ts. ts ++ more) c.first_query.ensures ∙ ap (λ ts. query ++ ts) c.texts.ensures) both);
