@@ -25,3 +25,4 @@ pub mod Pointers
 pub mod Sites
 pub mod Leading
 pub mod Fractions
+pub mod Several

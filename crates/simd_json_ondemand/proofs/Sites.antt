@@ -7,7 +7,7 @@ use Rattle.std.proofs.lemmas.Bool.{cond-true, cond-false, ne_eqb}
 use Rattle.std.proofs.lemmas.List.{drop_all, drop_more}
 use Rattle.std.proofs.lemmas.Option.{slice_get-map}
 use Rattle.simd_json_parts.specs.Document.{Document, elements, array, members, object}
-use Rattle.simd_json_parts.specs.Followed.{IsPlain, IsTokenAt, fits_64, tokens_after}
+use Rattle.simd_json_parts.specs.Followed.{IsTokenAt, fits_64, tokens_after}
 use Rattle.simd_json_parts.specs.Pointed.{array_index, member_at, named, unescaped}
 use Rattle.simd_json_parts.specs.Views as views
 use Rattle.simd_json_parts.specs.Views.{as_str, is_array, is_object, ok_map}
@@ -226,6 +226,25 @@ module _ (t : List ℕ) (v : Value) (d : Document) (h : doc v ≡ Some d) where
           ∙ ap (λ x. Ok (some_of x)) (sym (ap (λ e. result_ok (named t e)) same ∙ ap (λ u. result_ok (member_at ms u)) names
           ∙ ok-or (views.first_with key ms) lacking.Key))
       go _ same is o names = cc
+
+  found-in : (r : Reached) (x : Option (Option Document)) → ok_map (option_map doc_at) r ≡ Ok x → option_map doc_at (found r) ≡ x
+  found-in (Ok o) x is = cc
+  found-in (Err e) x is = cc
+
+  -- what is found there is what the token names
+  pub named-found : option_map doc_at (found (named_at t (site v))) ≡ some_of (result_ok (named t d))
+  named-found = go d refl
+    where
+      other : is_array d ≡ false → is_object d ≡ false → result_ok (named t d) ≡ None
+          → option_map doc_at (found (named_at t (site v))) ≡ some_of (result_ok (named t d))
+      other g o none =
+          ap (λ r. option_map doc_at (found r)) (other-named t v (opens-array v d h ∙ g) (opens-object v d h ∙ o))
+          ∙ ap some_of (sym none)
+
+      go : (e : Document) → d ≡ e → option_map doc_at (found (named_at t (site v))) ≡ some_of (result_ok (named t d))
+      go (array ds) same = found-in _ _ (in-elements (ap is_array same))
+      go (object ms) same = found-in _ _ (in-members (ap is_object same))
+      go _ same = other (ap is_array same) (ap is_object same) (ap (λ e. result_ok (named t e)) same)
 
   -- what a step finds is what the token names, and where it names nothing in a container no walk stopped
   pub record IsStep (r : Result (Option Value) StoppedAt) : Type 0 where

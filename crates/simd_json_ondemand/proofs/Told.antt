@@ -1,6 +1,6 @@
 -- What the forms that return an item, and those that return an error, say of a walk.
 use Rattle.std.proofs.Common.{◌≡◌, refl, sym, ◌∙◌, ap, [], ◌∷◌}
-use Rattle.std.specs.Prelude.{Option, Some, None, Result, Ok, Err, IfOk, IfSome, MatchOption, MatchResult, option_map}
+use Rattle.std.specs.Prelude.{Option, Some, None, Result, Ok, Err, MatchOption, MatchResult, option_map}
 use Rattle.std.specs.Result.{result_ok}
 use Rattle.simd_json_ondemand.specs.Stopped.{error_at, told}
 use Rattle.simd_json_ondemand.specs.Walks.{Walk, stopped, ended, came, found, items}

@@ -29,8 +29,8 @@ use Rattle.simd_json_ondemand.specs.Remaining.{members_behind}
 use Rattle.simd_json_ondemand.specs.Unexpected.{unexpected}
 use Rattle.simd_json_ondemand.specs.Viewed.{first_read, read_along}
 use Rattle.simd_json_ondemand.specs.Walked as walks
-use Rattle.simd_json_ondemand.specs.Walks.{Walk, stopped, ended, came, whole, first, walk_past, walk_from, and_ok, and_some, or_walk}
-use Rattle.simd_json_ondemand.specs.Walks.{walk_round, may_begin_value, value_here, behind_token, behind_item, member_here, elements_walk}
+use Rattle.simd_json_ondemand.specs.Walks.{Walk, stopped, ended, came, whole, first, walk_past, walk_from, and_ok, and_some}
+use Rattle.simd_json_ondemand.specs.Walks.{may_begin_value, value_here, behind_token, behind_item, member_here, elements_walk}
 use Rattle.simd_json_ondemand.specs.Walks.{items, members_walk, pair_along, walk_by}
 use Rattle.simd_json_ondemand.specs.declared.array.Position.TheVariants.{First, AtValue}
 use Rattle.simd_json_ondemand.specs.declared.unexpected.Expected.TheVariants as expected

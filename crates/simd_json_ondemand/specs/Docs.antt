@@ -64,3 +64,8 @@ HasEscape v = let b = text v.document in
 -- how many bytes the string there has as it is written, with its quotes
 abbrev pub string_len : Value → ℕ
 string_len v = closing_quote (text v.document) (index_of v) + 1 - index_of v
+
+-- the bytes between its quotes
+abbrev pub between_quotes : Value → List ℕ
+between_quotes v =
+    let i = index_of v in slice_range (text v.document) (i + 1) (closing_quote (text v.document) i)

@@ -11,6 +11,7 @@ pub mod Within
 -- Look-up by key.
 pub mod Keys
 pub mod WantedKey
+pub mod Prepared
 -- The lines of a stream.
 pub mod Lines
 -- Walks along arrays and objects, which tell their end from a place where they stop.

@@ -80,6 +80,16 @@ impl<'d> Value<'d> {
         }
     }
 
+    /// Returns the integer as the node that a tape has of it, or `None` if the value is no integer
+    /// of 128 bits.
+    #[inline(always)]
+    pub fn as_integer(self) -> Option<StaticNode>
+        ensures { MatchOption result (option_and_then as_integer (standing self.entry) ≡ None)
+            (λ node. IsInteger node (standing self.entry)) }
+    {
+        self.integer()
+    }
+
     /// Returns the integer, if it fits `i8`, else `None`.
     #[inline(always)]
     pub fn as_i8(self) -> Option<i8>

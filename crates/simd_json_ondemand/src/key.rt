@@ -18,11 +18,11 @@ use std::simd::prelude::*;
 /// A key, and its first eight bytes as they are compared, with quotes after its end.
 #[derive(Clone, Copy)]
 pub(crate) struct WantedKey<'k> {
-    key: &'k [u8],
-    first: [u8; 8],
+    pub(crate) key: &'k [u8],
+    pub(crate) first: [u8; 8],
     // Whether its first eight bytes have neither a quote nor a backslash. A key that has one is
     // written with an escape.
-    is_plain: bool,
+    pub(crate) is_plain: bool,
     ghost made: { IsWanted key.now first is_plain },
 }
 
@@ -34,7 +34,13 @@ impl<'k> WantedKey<'k> {
     pub(crate) fn new(key: &'k str) -> WantedKey<'k>
         ensures { result.key.now ≡ key.now }
     {
-        let key = key.as_bytes();
+        WantedKey::of(key.as_bytes())
+    }
+
+    #[inline(always)]
+    pub(crate) fn of(key: &'k [u8]) -> WantedKey<'k>
+        ensures { result.key.now ≡ key.now }
+    {
         let first = first_eight(key);
         WantedKey {
             key,

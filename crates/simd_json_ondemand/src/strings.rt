@@ -1,6 +1,6 @@
 //! Strings: borrowed from the input where they have no escape, else decoded into a buffer.
 ghost use Rattle.std.specs.Prelude.{◌≡◌, ◌≤◌, ◌<◌, ◌+◌, length, drop, OnOk, IfErr, ◌⊎◌, Some, None};
-ghost use Rattle.std.specs.Prelude.{MatchOption, IfOk, option_map};
+ghost use Rattle.std.specs.Prelude.{MatchOption, IfOk, IsTrue, false, option_map};
 ghost use Rattle.std.specs.Vec.{vec_capacity};
 ghost use Rattle.std.specs.List.{prefix_len};
 ghost use Rattle.simd_json_stages.specs.Capacities.{IsOutOfMemory};
@@ -16,7 +16,8 @@ use simd_json_scalars::stringparse::parse_str;
 use std::alloc::Allocator;
 
 impl<'d> Value<'d> {
-    ghost use Rattle.simd_json_ondemand.specs.Docs.{HasEscape, as_standing, index_of, string_len};
+    ghost use Rattle.simd_json_ondemand.specs.Docs.{HasEscape, as_standing, between_quotes, index_of};
+    ghost use Rattle.simd_json_ondemand.specs.Docs.{string_len};
     ghost use Rattle.simd_json_ondemand.specs.Docs.{text};
 
     /// Returns the string, if it has no escape, else `None`. [`decode`](Value::decode) returns any
@@ -46,6 +47,22 @@ impl<'d> Value<'d> {
             return None;
         }
         Some(unsafe { str::from_utf8_unchecked(&bytes[1..end]) })
+    }
+
+    /// Returns whether the string has an escape. If not, the bytes between its quotes are the
+    /// string. Of a value that is no string it returns `false`.
+    #[inline(always)]
+    pub fn has_escape(self) -> bool
+        ensures escape { IsTrue result → HasEscape self.entry }
+        ensures plain { byte_at (text self.entry.document) (index_of self.entry) ≡ quote
+            → result ≡ false
+            → as_standing accessors.str self.entry ≡ Some (between_quotes self.entry) }
+    {
+        if self.first() != b'"' {
+            return false;
+        }
+        let bytes = self.bytes();
+        bytes[plain_end(bytes, 1)] != b'"'
     }
 
     /// Returns the string, or `None`. One that has an escape is decoded into the buffer, whose

@@ -181,6 +181,14 @@ impl<'d> Value<'d> {
         self.document.input[self.document.indexes[self.at] as usize]
     }
 
+    /// Returns the byte index in the input at which the value begins.
+    #[inline(always)]
+    pub fn index(self) -> usize
+        ensures { result ≡ index_of self.entry }
+    {
+        self.document.indexes[self.at] as usize
+    }
+
     /// Returns whether the value is an array.
     #[inline(always)]
     #[tactic(auto, using(crate::proofs::Standing::opens_array_byte))]

@@ -14,6 +14,7 @@ mod objects;
 mod other;
 mod pass;
 mod pointer;
+mod pointers;
 mod stream;
 mod tape;
 mod walks;

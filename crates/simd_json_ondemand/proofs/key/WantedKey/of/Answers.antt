@@ -1,6 +1,6 @@
 use Rattle.std.proofs.Common.{◌∙◌, ap, sym}
 use Rattle.simd_json_scalars.specs.StringContent.{is_plain}
-use Rattle.simd_json_ondemand.proofs.key.WantedKey.new.Goals as goal
+use Rattle.simd_json_ondemand.proofs.key.WantedKey.of.Goals as goal
 
 pub invariant_of-result : goal.invariant_of-result
 invariant_of-result c = record {
