@@ -375,6 +375,43 @@ int32_t simd_json_parser_scan(simd_json_parser *parser, const void *input, size_
 int32_t simd_json_parser_pointer(simd_json_parser *parser, const void *pointer, size_t pointer_len, simd_json_found *found,
                                  void *out, size_t out_len) SIMD_JSON_NONNULL(1, 4);
 
+/* Several values of each of many inputs: a parser is given the JSON Pointers once, and finds what they name in one input after
+ * another, in one walk along an object for all of its keys. Nothing is copied: what is found is where it is in the input.
+ *
+ *     simd_json_field fields[2];
+ *     status = simd_json_parser_add(&parser, "/status", 7);
+ *     if (status == SIMD_JSON_OK) status = simd_json_parser_add(&parser, "/request/path", 13);
+ *     while (status == SIMD_JSON_OK && (line = next(&len))) {
+ *         status = simd_json_parser_pointers(&parser, line, len, fields, 2, &place);
+ *         if (status == SIMD_JSON_OK && fields[0].kind == SIMD_JSON_U64 && fields[1].kind == SIMD_JSON_STRING)
+ *             printf("%llu %.*s\n", (unsigned long long)fields[0].value, (int)fields[1].len, line + fields[1].value);
+ *     }
+ *
+ * The values are those that simd_json_parser_pointer finds, also in an input that is not a document. */
+typedef struct {
+    uint32_t kind;       /* as of a node, or SIMD_JSON_MISSING */
+    uint32_t has_escape; /* 1 of a string that has an escape, else 0: the bytes between its quotes are the string */
+    size_t len;          /* of the value as it is written, a string with its quotes; of the first four kinds 0 */
+    uint64_t value;      /* where that begins in the input; of the first four kinds as of a node */
+} simd_json_field;
+
+#define SIMD_JSON_MISSING 10 /* the pointer leads nowhere, or to what is no value */
+
+/* Adds a JSON Pointer (simd_json_pointer) to those that the parser finds the values of, and copies it.
+ *
+ * INVALID_POINTER: it is malformed, or not UTF-8. OUT_OF_MEMORY: an allocation failed. PARSER_CLOSED: the parser is not open. After
+ * these nothing is added. Of the other calls only simd_json_close and simd_json_open discard pointers. */
+int32_t simd_json_parser_add(simd_json_parser *parser, const void *pointer, size_t pointer_len) SIMD_JSON_NONNULL(1);
+
+/* Finds the values that the parser's pointers name in an input: fields[0] is the value of the first that was added, and so on, of as
+ * many as there are of both; other fields are unchanged. Writes *place. They are right as long as the input is unchanged. An input
+ * that is kept (simd_json_parser_scan) stays.
+ *
+ * The errors are those of simd_json_scan, OUT_OF_MEMORY only if what the parser keeps is too small, and PARSER_CLOSED; after an error
+ * fields are unchanged. */
+int32_t simd_json_parser_pointers(simd_json_parser *parser, const void *input, size_t len, simd_json_field *fields,
+                                  size_t fields_len, simd_json_place *place) SIMD_JSON_NONNULL(1, 6);
+
 /* Frees what the parser keeps, and closes it. It may be opened again; closing a closed parser does nothing. */
 void simd_json_close(simd_json_parser *parser) SIMD_JSON_NONNULL(1);
 

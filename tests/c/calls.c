@@ -526,6 +526,85 @@ static void values_found(void) {
     simd_json_close(&parser);
 }
 
+// Values of more pointers than are looked up in one walk, of documents and of inputs that are none.
+static void fields_found(void) {
+    static const char input[] = "{\"a\":{\"b\":[1,-7]},\"s\":\"x\\\"y\",\"t\":\"plain\",\"f\":2.50,\"n\":null,\"y\":true,"
+                                "\"w\":18446744073709551616,\"\\u0061\":3,\"z/\":4,\"o\":false,\"v\":1x}";
+    static const struct {
+        const char *pointer;
+        uint32_t kind, has_escape;
+        uint64_t value;      // of a value that is written nowhere else
+        const char *written; // or as it is written
+    } rows[] = {
+        {"/a/b", SIMD_JSON_ARRAY, 0, 0, "[1,-7]"},
+        {"/a/b/1", SIMD_JSON_I64, 0, (uint64_t)-7, 0},
+        {"/s", SIMD_JSON_STRING, 1, 0, "\"x\\\"y\""},
+        {"/t", SIMD_JSON_STRING, 0, 0, "\"plain\""},
+        {"/f", SIMD_JSON_DECIMAL, 0, 0, "2.50"},
+        {"/n", SIMD_JSON_NULL, 0, 0, 0},
+        {"/y", SIMD_JSON_BOOL, 0, 1, 0},
+        {"/o", SIMD_JSON_BOOL, 0, 0, 0},
+        {"/w", SIMD_JSON_U128, 0, 0, "18446744073709551616"},
+        {"/a", SIMD_JSON_OBJECT, 0, 0, "{\"b\":[1,-7]}"},
+        {"/z~1", SIMD_JSON_U64, 0, 4, 0},
+        {"/q", SIMD_JSON_MISSING, 0, 0, 0},
+        {"", SIMD_JSON_OBJECT, 0, 0, input},
+        {"/a/c", SIMD_JSON_MISSING, 0, 0, 0},
+        {"/v", SIMD_JSON_MISSING, 0, 0, 0},
+        {"/a", SIMD_JSON_OBJECT, 0, 0, "{\"b\":[1,-7]}"},
+        {"/y/0", SIMD_JSON_MISSING, 0, 0, 0},
+    };
+    enum { ROWS = sizeof rows / sizeof *rows };
+    simd_json_field fields[ROWS + 2];
+    simd_json_found found = {77, 77};
+    simd_json_place place = {5, 5};
+    char out[8];
+    simd_json_parser parser = {0};
+    WANT(simd_json_parser_add(&parser, "/a", 2) == SIMD_JSON_PARSER_CLOSED, "closed");
+    memset(fields, 77, sizeof fields);
+    WANT(simd_json_parser_pointers(&parser, input, 1, fields, 1, &place) == SIMD_JSON_PARSER_CLOSED, "closed");
+    WANT(fields[0].len == fields[ROWS].len && place.index == 0 && place.character == SIMD_JSON_NO_CHARACTER, "closed");
+    WANT(simd_json_open(&parser, 8) == SIMD_JSON_OK, "opened");
+    WANT(simd_json_parser_pointers(&parser, "7", 1, fields, 1, &place) == SIMD_JSON_OK, "no pointer");
+    WANT(fields[0].len == fields[ROWS].len, "no pointer");
+    WANT(simd_json_parser_scan(&parser, "[1]", 3, &place) == SIMD_JSON_OK, "kept");
+    for (size_t i = 0; i < ROWS; i++) {
+        WANT(simd_json_parser_add(&parser, rows[i].pointer, strlen(rows[i].pointer)) == SIMD_JSON_OK, rows[i].pointer);
+        WANT(simd_json_parser_add(&parser, "a", 1) == SIMD_JSON_INVALID_POINTER, "a");
+        WANT(simd_json_parser_add(&parser, "/~2", 3) == SIMD_JSON_INVALID_POINTER, "/~2");
+        WANT(simd_json_parser_add(&parser, "/\377", 2) == SIMD_JSON_INVALID_POINTER, "no UTF-8");
+    }
+    for (size_t most = 0; most <= ROWS + 1; most++) {
+        memset(fields, 77, sizeof fields);
+        place = (simd_json_place){5, 5};
+        WANT(simd_json_parser_pointers(&parser, input, sizeof input - 1, fields, most, &place) == SIMD_JSON_OK, input);
+        WANT(place.index == 0 && place.character == SIMD_JSON_NO_CHARACTER, input);
+        for (size_t i = 0; i < ROWS && i < most; i++) {
+            size_t len = rows[i].written ? strlen(rows[i].written) : 0;
+            WANT(fields[i].kind == rows[i].kind && fields[i].has_escape == rows[i].has_escape && fields[i].len == len, rows[i].pointer);
+            WANT(rows[i].written ? fields[i].value == (size_t)(strstr(input, rows[i].written) - input) : fields[i].value == rows[i].value,
+                 rows[i].pointer);
+        }
+        for (size_t i = most < ROWS ? most : ROWS; i < ROWS + 2; i++)
+            WANT(memcmp(&fields[i], &fields[ROWS + 1], sizeof *fields) == 0, "unchanged");
+    }
+    static const struct {
+        const char *input;
+        int status;
+    } bad[] = {{"\"", SIMD_JSON_SYNTAX}, {" ", SIMD_JSON_EOF}, {"\377", SIMD_JSON_INVALID_UTF8}};
+    for (size_t i = 0; i < sizeof bad / sizeof *bad; i++) {
+        memset(fields, 77, sizeof fields);
+        WANT(simd_json_parser_pointers(&parser, bad[i].input, 1, fields, ROWS, &place) == bad[i].status, bad[i].input);
+        WANT(place.index == 0 && place.character == SIMD_JSON_NO_CHARACTER && memcmp(&fields[0], &fields[1], sizeof *fields) == 0,
+             bad[i].input);
+    }
+    WANT(simd_json_parser_pointer(&parser, "/0", 2, &found, out, sizeof out) == SIMD_JSON_OK && out[0] == '1', "still kept");
+    WANT(simd_json_open(&parser, 8) == SIMD_JSON_OK, "opened again");
+    memset(fields, 77, sizeof fields);
+    WANT(simd_json_parser_pointers(&parser, "7", 1, fields, 1, &place) == SIMD_JSON_OK && fields[0].kind != SIMD_JSON_U64, "no pointer");
+    simd_json_close(&parser);
+}
+
 // An input is kept by other calls, and by an error no more.
 static void input_kept(void) {
     char out[64];
@@ -725,6 +804,7 @@ int main(void) {
     nodes_located();
     tapes_lent();
     values_found();
+    fields_found();
     input_kept();
     kinds_named();
     texts_are_names();

@@ -120,23 +120,26 @@ static void move(void) {
 
 // Each call with a parser whose last input is gone, after a document and after one that is rejected.
 static void drop(void) {
+    WANT(simd_json_parser_add(&parser, "/0", 2) == SIMD_JSON_OK && simd_json_parser_add(&parser, "", 0) == SIMD_JSON_OK);
     static const char *const others[] = {"[\"\\u0041\"]", "[1,]", "", "\"\377\""};
-    for (int call = 0; call < 40; call++) {
+    for (int call = 0; call < 48; call++) {
         char *page = map(), copy[16] = "", out[16];
-        size_t len = strlen(strcpy(copy, others[call / 10])), needed;
+        size_t len = strlen(strcpy(copy, others[call / 12])), needed;
         simd_json_document of = parse(page);
         simd_json_place place;
         simd_json_found found;
+        simd_json_field fields[2];
         if (call % 2) {
             page[PAGE - 1] = '"';
             WANT(simd_json_parser_parse(&parser, page + PAGE - LEN, LEN, &of, &place) != SIMD_JSON_OK);
         }
         munmap(page, PAGE);
-        switch (call / 2 % 5) {
+        switch (call / 2 % 6) {
         case 0: simd_json_parser_parse(&parser, copy, len, &of, &place); break;
         case 1: simd_json_parser_check(&parser, copy, len, &place); break;
         case 2: simd_json_parser_print(&parser, copy, len, 0, 0, SIMD_JSON_PRETTY, out, sizeof out, &needed, &place); break;
         case 3: simd_json_parser_scan(&parser, copy, len, &place); break;
+        case 4: simd_json_parser_pointers(&parser, copy, len, fields, 2, &place); break;
         default: simd_json_parser_pointer(&parser, "/0", 2, &found, out, sizeof out); break;
         }
     }

@@ -107,6 +107,28 @@ static void finds(const char *pointer, uint32_t kind, const char *wanted) {
     }
 }
 
+// Values by several pointers, for fewer fields than pointers and for more.
+static void finds_all(void) {
+    static const char *const pointers[] = {"/b/d", "/a/3", "/c", "/a/1"};
+    for (size_t i = 0; i < 4; i++) {
+        lent name = show(pointers[i], 4 - (i == 2) * 2);
+        WANT(simd_json_parser_add(&parser, name.at, name.len) == SIMD_JSON_OK);
+        give_back(name, name.len);
+    }
+    for (size_t count = 0; count <= 5; count++) {
+        lent input = show(document, len), out = lend(count * sizeof(simd_json_field));
+        simd_json_place place;
+        WANT(simd_json_parser_pointers(&parser, input.at, len, out.at, count, &place) == SIMD_JSON_OK);
+        simd_json_field *fields = out.at;
+        WANT(count < 1 || (fields[0].kind == SIMD_JSON_BOOL && fields[0].value == 1 && fields[0].len == 0));
+        WANT(count < 2 || (fields[1].kind == SIMD_JSON_STRING && fields[1].has_escape == 1 && fields[1].value == 15 && fields[1].len == 10));
+        WANT(count < 3 || (fields[2].kind == SIMD_JSON_MISSING && fields[2].value == 0));
+        WANT(count < 4 || (fields[3].kind == SIMD_JSON_I64 && (int64_t)fields[3].value == -2));
+        give_back(input, len);
+        give_back(out, (count < 4 ? count : 4) * sizeof(simd_json_field));
+    }
+}
+
 // Counted by hand: 27 tokens. The last six begin at `,` `"` `:` `t` and two braces.
 static void indexes(void) {
     for (size_t room = 0; room <= 28; room++) {
@@ -269,6 +291,7 @@ int main(void) {
     finds("", SIMD_JSON_OBJECT, document);
     finds("/a/3", SIMD_JSON_STRING, "\"\\n\\u00e9\"");
     finds("/b/d", SIMD_JSON_BOOL, "true");
+    finds_all();
     indexes();
     names();
     locations();

@@ -97,14 +97,27 @@ static int kept_index(void) {
     return status;
 }
 
+static int kept_pointers(void) {
+    simd_json_field fields[2] = {{77, 77, 77, 77}, {77, 77, 77, 77}};
+    int status = simd_json_parser_pointers(&parser, input, sizeof document - 1, fields, 2, &place);
+    for (int i = 0; i < 2; i++) WANT(status == SIMD_JSON_OK ? fields[i].kind == SIMD_JSON_OBJECT && fields[i].len == 10 : fields[i].kind == 77);
+    return status;
+}
+// The same pointer twice, and again after one that was not added.
+static int adds(void) {
+    int status = simd_json_parser_add(&parser, "/1/1", 4);
+    return status == SIMD_JSON_OK ? simd_json_parser_add(&parser, "/1/1", 4) : status;
+}
+
 static int (*const kept_calls[])(void) = {kept_check, kept_check_wrong, kept_check_deep, kept_print,
-                                         kept_print_at, kept_parse, kept_index};
+                                         kept_print_at, kept_parse, kept_index, kept_pointers};
 enum { KEPT_CALLS = sizeof kept_calls / sizeof *kept_calls };
 
 // A parser that is opened and closed again, with each call between.
 static int kept(void) {
     int status = simd_json_open(&parser, 100);
     WANT(status == SIMD_JSON_OK ? parser.is_open == 1 : parser.is_open == 0);
+    if (status == SIMD_JSON_OK) status = adds();
     for (int i = 0; status == SIMD_JSON_OK && i < KEPT_CALLS; i++) {
         strcpy(input, document);
         memset(out, 0, sizeof out);
@@ -136,6 +149,12 @@ static void memory_is_kept(void) {
     int before = held;
     WANT(simd_json_open(&parser, 100) == SIMD_JSON_OK);
     WANT(held == before + 1);
+    for (int status = SIMD_JSON_OUT_OF_MEMORY, failures = 0; status != SIMD_JSON_OK;) {
+        allowed = failures++;
+        status = adds();
+        allowed = -1;
+        WANT(status == SIMD_JSON_OUT_OF_MEMORY || status == SIMD_JSON_OK);
+    }
     for (int i = 0; i < KEPT_CALLS; i++)
         for (int status = SIMD_JSON_OUT_OF_MEMORY, failures = 0; status != SIMD_JSON_OK;) {
             strcpy(input, document);

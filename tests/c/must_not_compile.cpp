@@ -1,5 +1,5 @@
 // With CASE above 0 it must not compile: an element of a parser, of a text or of a document that is
-// gone at once, and an index that is none. tests/bindings.sh says what the message names.
+// gone at once, an index that is none, and a string for a list of them. tests/bindings.sh says what the message names.
 #include <cstdio>
 #include <simd_json.hpp>
 #include <vector>
@@ -15,13 +15,15 @@ int main() {
     const auto root = parser.parse("[1]");
     std::string text("[1]");
     struct { simd_json::parser parser; } service{};
+    simd_json::fields fields({"/a"}), of_strings(std::vector<std::string>{"/a"});
     element (simd_json::parser::*const parse_in_place)(std::string &) & = &simd_json::parser::parse_in_place;
 #if CASE == 0
     const simd_json::element of(document);
     for (const auto element : parser.parse("[1]").array())
         std::printf("%u", element.kind());
     return static_cast<int>(root[0].kind() + parser.root().kind()
-                            + (parser.*parse_in_place)(text).kind()
+                            + (parser.*parse_in_place)(text).kind() + fields.get(text).size()
+                            + fields.get("[1]").size() + of_strings.get(std::as_const(text)).size()
                             + service.parser.parse("[1]").get(0)->kind());
 #elif CASE == 1
     const auto element = simd_json::parser().parse("[1]");
@@ -68,5 +70,11 @@ int main() {
     const auto element = root[static_cast<__int128>(1)];
 #elif CASE == 22
     const auto element = root.get(static_cast<unsigned __int128>(1) << 64);
+#elif CASE == 23
+    const auto &found = simd_json::fields({"/a"}).get("[1]");
+#elif CASE == 24
+    const auto &found = fields.get(std::string("[1]"));
+#elif CASE == 25
+    simd_json::fields one("/a");
 #endif
 }

@@ -570,7 +570,7 @@ static bool is_word(const char *line, size_t len, const char *word) { return len
 
 // A row without its answer is followed by the one that is found. `kept` is open for 1,024 containers, `other` for any number.
 static void answer(const char *line, struct bytes *to, simd_json_parser *kept, simd_json_parser *other) {
-    static const char *const copied[] = {"padded", "path"};
+    static const char *const copied[] = {"padded", "path", "paths"};
     const char *input = strchr(line, ' '), *end = input ? strstr(input, " => ") : 0;
     size_t len = strcspn(line, ": ");
     for (size_t i = 0; i < sizeof copied / sizeof *copied; i++)

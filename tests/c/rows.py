@@ -15,7 +15,7 @@ sys.path[:0] = [str(pathlib.Path(__file__).parent), str(pathlib.Path(__file__).p
 import mutants
 import simd_json
 
-COPIED = ("indexes", "locate", "document", "pointer", "path", "padded")
+COPIED = ("indexes", "locate", "document", "pointer", "path", "paths", "padded")
 ANSWERED = ("parse", "compact", "pretty")
 NO_CHARACTER = (1 << 32) - 1
 

@@ -6,6 +6,7 @@
 #include <simd_json.hpp>
 #include <sstream>
 #include <sys/mman.h>
+#include <vector>
 
 static int failures = 0;
 #define EXPECT(condition) ((condition) ? void() : void((std::cerr << __LINE__ << ": " #condition "\n", failures++)))
@@ -418,12 +419,125 @@ static void are_found() {
         EXPECT(scan(parser, wrong) && lacks(parser, "") && lacks(parser, ""));
     for (const char *const wrong : {"nope", integer.c_str(), "1 2", "tru", "]", ",", "\xef\xbb\xbf[1]", "-"})
         EXPECT(!scan(parser, wrong));
+}
+
+// What is found stays right until the next scan, in all builds, whatever else the parser does.
+static void stay_found() {
+    simd_json::parser parser;
+    parser.scan(R"({"id":42,"port":8080,"name":"\u00e9","tags":["a",{"b":[]}],"":1.50})");
+    const auto port = parser.pointer("/port"), id = parser.pointer("/id"), name = parser.pointer("/name");
+    const auto tags = parser.pointer("/tags"), ratio = parser.pointer("/"), root = parser.pointer("");
+    EXPECT(!parser.pointer("/absent") && parser.parse("[1,2]")[1] == 2 && parser.print("[3]") == "[3]");
+    parser.check("[4]");
+    simd_json::parser to(std::move(parser));
+    EXPECT(port == 8080 && id == 42 && name == "é" && ratio->as_decimal() == "1.50" && root->size() == 5);
+    EXPECT(to_string(*tags) == R"(["a",{"b":[]}])" && root->get("tags") == tags && to.pointer("/name") == name);
+    // Of the same pointer it is the same value, which takes no more memory.
+    EXPECT(to.pointer("/name")->as_string()->data() == name->as_string()->data());
+    to.scan(R"("[\"a\", 7]")");
 #ifndef NDEBUG
-    parser.scan("[1,2]");
-    const auto one = parser.pointer("/0");
-    EXPECT(parser.pointer("/1") == 2);
-    EXPECT(ends_by<std::logic_error>([&] { one->kind(); }));
+    EXPECT(are_over([&] { name->kind(); }, [&] { tags->array(); }));
 #endif
+    to.scan(to.pointer("")->as_string().value()); // a string that it has found
+    EXPECT(to.pointer("/1") == 7 && !to.pointer("/2"));
+}
+
+static bool are(const std::vector<std::optional<simd_json::element>> &found, std::vector<std::string> wanted) {
+    std::vector<std::string> texts;
+    for (const auto &value : found)
+        texts.push_back(value ? to_string(*value) : "");
+    return texts == wanted;
+}
+
+static void are_fields() {
+    const std::string line = R"({"status":404,"path":"/a","quoted":"\"\u00e9","tags":["x",{"y":[]}],"ratio":-2.50,)"
+                             R"("wide":18446744073709551616,"low":-7,"on":true,"none":null,"status":1,"user":{"id":7,"n":"\n"}})";
+    simd_json::fields wanted({"/status", "/path", "/quoted", "/tags", "/ratio", "/wide", "/low", "/on", "/none", "/absent",
+                              "/user/id", "/tags/1/y", "/user", "/quoted", "/path", "/tags/2"});
+    const auto &found = wanted.get(line);
+    EXPECT(found.size() == 16 && found[0] == 404 && found[1] == "/a" && found[2] == "\"é" && found[4]->as_decimal() == "-2.50");
+    EXPECT(are(found, {"404", R"("/a")", R"("\"é")", R"(["x",{"y":[]}])", "-2.50", "18446744073709551616", "-7", "true", "null",
+                       "", "7", "[]", R"({"id":7,"n":"\n"})", R"("\"é")", R"("/a")", ""}));
+    EXPECT(found[5]->as_wide_integer() && found[6]->as_int64() == -7 && found[7]->as_bool() == true && found[8]->is_null());
+    EXPECT(found[3]->array().size() == 2 && found[3]->pointer("/1/y")->size() == 0 && found[12]->get("n") == "\n");
+    // A string without escapes is in the line, which may be of any kind.
+    EXPECT(found[1]->as_string()->data() == line.data() + line.find("/a") && found[1] == found[14]);
+    const auto first = found[0], third = found[3];
+    simd_json::fields to(std::move(wanted));
+    EXPECT(first == 404 && third->get(0) == "x");
+    EXPECT(throws([&] { wanted.get(line); }, SIMD_JSON_PARSER_CLOSED, 0));
+    simd_json::fields brief({"/0"});
+    const auto newline = brief.get("[\"\\n\"]")[0];
+    simd_json::fields moved_to(std::move(brief));
+    EXPECT(newline == "\n" && moved_to.get("[7]")[0] == 7);
+    EXPECT(are(to.get("{\"status\":[]}"), {"[]", "", "", "", "", "", "", "", "", "", "", "", "", "", "", ""}));
+#ifndef NDEBUG
+    EXPECT(are_over([&] { first->kind(); }, [&] { third->array(); }));
+#endif
+    // A string that was found is the next text, also where the parser has decoded it.
+    simd_json::fields nested({"/a", "/b"});
+    std::string text = R"({"a":"{\"a\":\"{\\\"a\\\":\\\"\\\\u0041\\\",\\\"b\\\":[1]}\",\"b\":2}","b":0})";
+    for (int depth = 0; depth < 2; depth++) {
+        const auto &next = nested.get(depth == 0 ? std::string_view(text) : nested.get(text)[0]->as_string().value());
+        EXPECT(next[1] == 2 * depth && next[0]->is_string());
+        if (depth == 1)
+            EXPECT(are(nested.get(next[0]->as_string().value()), {"\"A\"", "[1]"}));
+    }
+}
+
+static void are_hostile_fields() {
+    // None, many, equal ones, and one in another.
+    simd_json::fields none({});
+    EXPECT(none.get("[1]").size() == 0 && none.get("[1]").begin() == none.get("[1]").end());
+    EXPECT(throws([&] { none.get("[\"\xff\"]"); }, SIMD_JSON_INVALID_UTF8, 0));
+    std::vector<std::string> names;
+    std::string text = "[", inner;
+    for (int i = 0; i < 1000; i++) {
+        names.push_back(i % 10 == 9 ? "/7" : "/" + std::to_string(999 - i));
+        text += (i ? "," : "") + (i % 3 ? std::to_string(i) : i % 2 ? "\"\\n" + std::to_string(i) + '"' : "[" + std::to_string(i) + "]");
+    }
+    text += ']';
+    simd_json::fields many(names);
+    simd_json::parser parser;
+    const auto root = parser.parse(text);
+    for (int round = 0; round < 3; round++) {
+        const auto &found = many.get(text);
+        for (size_t i = 0; i < names.size(); i++)
+            EXPECT(found[i] && found[i] == root.pointer(names[i]));
+    }
+    // The greatest depth, at the root and in it.
+    for (const size_t depth : {1, 3}) {
+        simd_json::fields shallow({"", "/0", "/0/0"}, depth), alone({""}, depth);
+        const std::string deep = std::string(depth, '[') + std::string(depth, ']');
+        EXPECT(alone.get(deep)[0]->is_array());
+        for (const auto of : {&shallow, &alone})
+            EXPECT(throws([&] { of->get("[[[[]]]]"); }, SIMD_JSON_DEPTH_LIMIT_EXCEEDED, depth));
+    }
+    simd_json::fields deepest({""}, SIZE_MAX);
+    EXPECT(deepest.get("[[]]")[0]->size() == 1);
+    // Pointers that are none.
+    for (const std::string_view wrong : {"a", "/~", "/a~2", " /a"})
+        EXPECT(ends_by<std::invalid_argument>([&] { simd_json::fields({"/a", wrong}); }));
+    EXPECT(ends_by<std::invalid_argument>([] { simd_json::fields({"/\xff"}); }, "simd_json: a JSON Pointer that is not UTF-8"));
+    // What is absent or malformed has the error of the text; what is found may be in one that is no document.
+    simd_json::fields wanted({"/a", "/b"});
+    for (const std::string_view wrong : {R"({"a":1,"b":tru})", R"({"a":[1,,2],"b":1})", R"({"a":"\q","b":1})", R"({"a":1)", R"({"a":1} x)",
+                                         "", "nope", "[1,]", "{\"a\":\"\n\"}", R"({"a":1,"b":[1})"}) {
+        simd_json_place place;
+        const int32_t status = simd_json_check(wrong.data(), wrong.size(), 1024, &place);
+        try {
+            wanted.get(wrong);
+            EXPECT(false);
+        } catch (const simd_json::error &e) {
+            EXPECT(status != SIMD_JSON_OK && e.status() == status && e.index() == place.index && e.line() > 0 && !e.reason().empty());
+        }
+    }
+    EXPECT(are(wanted.get(R"({"a":1,"b":"\n"} x)"), {"1", R"("\n")"}) && are(wanted.get("7"), {"", ""}));
+    // The line is changed: numbers and what was parsed stay, other texts are unspecified, but in it.
+    std::string line = R"({"a":"plain","b":[1,"x"]})";
+    const auto &found = wanted.get(line);
+    line.replace(0, line.size(), line.size(), '\\');
+    EXPECT(found[0]->as_string()->size() == 5 && to_string(*found[1]) == R"([1,"x"])");
 }
 
 static void are_null_by_default() {
@@ -479,6 +593,9 @@ int main() {
     are_printed();
     are_checked();
     are_found();
+    stay_found();
+    are_fields();
+    are_hostile_fields();
     are_null_by_default();
     are_ranges();
     simd_json::parser parser;

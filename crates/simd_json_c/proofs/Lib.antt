@@ -12,3 +12,5 @@ mod NodePlaces
 mod Integers
 mod Numbers
 mod Malformed
+mod Several
+mod Telling

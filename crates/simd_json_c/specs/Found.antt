@@ -98,6 +98,7 @@ IsInputWith old new b status place =
     MatchOption old
     ((new ≡ None) × (status ≡ parser_closed) × (place ≡ error_place None))
     (λ was. (lists : Lists) × (new ≡ Some lists) × KeepsRoom was lists × KeepsSource was.source lists.source
+    × (lists.wanted ≡ was.wanted)
     × ((fault : Option Error) × (status ≡ error_status fault) × (place ≡ error_place fault)
     × MatchOption fault (KeepsInput b lists)
     (λ e. IsUnscanned (source_capacity was.source) b e × (lists.source.is_scanned ≡ false))))

@@ -1,5 +1,5 @@
 -- What a parser keeps from one call to the next. A closed one keeps no lists.
-use Rattle.std.specs.Prelude.{◌≡◌, ◌≤◌, ◌⊎◌, ℕ, ℤ, pos, List, length, min, false, Option, Some, None, MatchOption, ⊤}
+use Rattle.std.specs.Prelude.{◌≡◌, ◌≤◌, ◌⊎◌, ℕ, ℤ, pos, List, [], length, min, false, Option, Some, None, MatchOption, ⊤}
 use Rattle.std.specs.Vec.{vec_capacity}
 use Rattle.simd_json.specs.Capacities.{KeepsCapacities, capacity, new_buffers}
 use Rattle.simd_json.specs.Parsed.{IsParseResult}
@@ -29,18 +29,19 @@ KeepsSource old new = lists.IsNoShorter old.index new.index × (vec_capacity old
 abbrev pub source_capacity : ScannedInput → ℕ
 source_capacity s = min (lists.capacity s.index) (vec_capacity s.bytes)
 
--- and the input that is kept, if one is
+-- and the input that is kept, if one is, and the pointers
 abbrev pub KeepsLists : Lists → Lists → Type 0
-KeepsLists old new = KeepsRoom old new × (new.source ≡ old.source)
+KeepsLists old new = KeepsRoom old new × (new.source ≡ old.source) × (new.wanted ≡ old.wanted)
 
 -- a parse of b with the lists
 abbrev pub IsReadWith : Lists → List ℕ → Option Error → List Item → Type 0
 IsReadWith lists b fault ns = IsParseResult b lists.buffers.limit (capacity lists.buffers) fault ns
 
--- lists with no capacity yet, and no input
+-- lists with no capacity yet, no input and no pointer
 abbrev pub AreNew : ℕ → Lists → Type 0
 AreNew limit lists =
     (lists.buffers ≡ new_buffers 0 limit) × (lists.checker ≡ new_checker) × (lists.source.is_scanned ≡ false)
+    × (lists.wanted.items ≡ [])
 
 abbrev pub IsOpened : ℕ → ℤ → Option Lists → Type 0
 IsOpened limit status parser =

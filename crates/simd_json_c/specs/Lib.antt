@@ -10,6 +10,7 @@ pub mod Kept
 pub mod Chosen
 pub mod Lent
 pub mod Found
+pub mod Fields
 pub mod Doubles
 pub mod Integers
 pub mod Printable

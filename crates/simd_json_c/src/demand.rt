@@ -99,7 +99,7 @@ fn put_value(value: Value<'_>, found: &mut FoundValue, out: &mut [u8]) -> i32
 }
 
 // The header's number of a kind.
-fn number_of(kind: ValueType) -> u32
+pub(crate) fn number_of(kind: ValueType) -> u32
     ensures { result ≡ kind_number kind }
 {
     match kind {

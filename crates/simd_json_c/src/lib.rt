@@ -7,6 +7,7 @@
 mod cells;
 mod demand;
 mod double;
+mod fields;
 mod fraction;
 mod integer;
 mod lent;
@@ -26,6 +27,7 @@ mod version;
 pub use cells::Cell;
 pub use demand::{FoundValue, simd_json_parser_pointer, simd_json_parser_scan};
 pub use double::simd_json_double;
+pub use fields::{Field, simd_json_parser_add, simd_json_parser_pointers};
 pub use integer::simd_json_integer;
 pub use lent::{Lent, simd_json_parser_parse};
 pub use lists::simd_json_check;

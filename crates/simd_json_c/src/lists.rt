@@ -9,12 +9,17 @@ ghost use Rattle.simd_json_parts.specs.Document.{Document};
 ghost use Rattle.simd_json_parts.specs.Listing.{listing};
 ghost use Rattle.simd_json_parts.specs.Nodes.{Item};
 ghost use Rattle.simd_json_c.specs.Calls.{IsCheckOf, IsCheckReported};
+ghost use Rattle.simd_json_parts.specs.InputFaults.{input_fault};
+ghost use Rattle.simd_json_stages.specs.Capacities.{capacity};
 ghost use Rattle.simd_json_c.specs.Chosen.{IsChosenPut, IsTapedWith};
+ghost use Rattle.simd_json_c.specs.Fields.{AreFieldsPut, wanted};
+ghost use Rattle.simd_json_c.specs.Indexed.{IsUnscanned};
 ghost use Rattle.simd_json_c.specs.Kept.{AreNew, IsReadWith, KeepsLists};
 ghost use Rattle.simd_json_c.specs.Lent.{AreLent};
 ghost use Rattle.simd_json_c.specs.Statuses.{missing_status};
 
 use crate::cells::Cell;
+use crate::fields::{Field, put_fields};
 use crate::lent::Lent;
 use crate::pointer::missing;
 use crate::print::print_at;
@@ -22,6 +27,7 @@ use crate::scanned::ScannedInput;
 use crate::status::{ErrorPlace, OUT_OF_MEMORY, reported};
 use simd_json::{Buffers, Result, Tape, keep_spans, refill_tape};
 use simd_json_check::Checker;
+use simd_json_ondemand::PreparedPointer;
 use simd_json_print::document::{Layout, Level};
 use std::alloc::Global;
 use std::mem::replace;
@@ -69,6 +75,8 @@ pub struct Lists {
     pub(crate) nodes: Vec<Cell>,
     // the input in which values are found
     pub(crate) source: ScannedInput,
+    // the pointers whose values are found together
+    pub(crate) wanted: Vec<PreparedPointer>,
 }
 
 impl Lists {
@@ -84,6 +92,7 @@ impl Lists {
             levels: Vec::new(alloc),
             nodes: Vec::new(alloc),
             source: ScannedInput::new(alloc),
+            wanted: Vec::new(alloc),
         }
     }
 
@@ -167,6 +176,20 @@ impl Lists {
             Ok(pointer) => self.print(alloc, input, pointer, layout, out, needed),
             Err(_) => Ok(missing(pointer)),
         }
+    }
+
+    // Finds what the pointers that are wanted name in an input. Returns 0.
+    pub(crate) fn find(&mut self, input: &[u8], fields: &mut [Field]) -> Result<i32>
+        ensures found { IfOk result (λ status. (status ≡ pos 0) × (input_fault input.now ≡ None)
+            × AreFieldsPut (wanted self.old) input.now fields.old fields.new) }
+        ensures fault { IfErr result (λ e. (fields.new ≡ fields.old)
+            × IsUnscanned (capacity self.old.checker.index) input.now e) }
+        ensures kept { KeepsLists self.old self.new }
+    {
+        self.checker.index.scan(input)?;
+        let document = simd_json_ondemand::Document::new(&self.checker.index, input);
+        put_fields(document.as_value(), self.wanted.as_slice(), fields);
+        Ok(0)
     }
 
     // Keeps the nodes of a document, and lends them. Returns 0 or `OUT_OF_MEMORY`.

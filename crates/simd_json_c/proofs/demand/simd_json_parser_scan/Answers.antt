@@ -1,4 +1,4 @@
-use Rattle.std.proofs.Common.{◌≡◌, ◌∙◌, ℤ, pos, ap, sym, Option, Some, None, Result, Ok, Err, List, ℕ, rules, w32, false, IfOk, IfErr}
+use Rattle.std.proofs.Common.{◌≡◌, ◌∙◌, ℤ, pos, ap, refl, sym, Option, Some, None, Result, Ok, Err, List, ℕ, rules, w32, false, IfOk, IfErr}
 use Rattle.std.proofs.lemmas.Int.{to_z-of_z}
 use mir.Val.{SFits}
 use Rattle.simd_json_parts.specs.declared.error.Error.{Error}
@@ -11,14 +11,15 @@ use Rattle.simd_json_c.proofs.Calling.{IsReported}
 use Rattle.simd_json_c.proofs.demand.simd_json_parser_scan.Goals as goal
 
 input-with : (old new : Option Lists) (was lists : Lists) (b : List ℕ) (r : Result ℤ Error) (status : ℤ) (place : ErrorPlace)
-    → old ≡ Some was → new ≡ Some lists → KeepsRoom was lists → KeepsSource was.source lists.source → IsReported r status place
+    → old ≡ Some was → new ≡ Some lists → KeepsRoom was lists → KeepsSource was.source lists.source → lists.wanted ≡ was.wanted
+    → IsReported r status place
     → IfOk r (λ s. s ≡ pos 0) → IfOk r (λ s. KeepsInput b lists)
     → IfErr r (λ e. IsUnscanned (source_capacity was.source) b e × (lists.source.is_scanned ≡ false))
     → IsInputWith old new b status place
-input-with old new was lists b (Ok s) status place before after room source told zero kept none =
-    rw before (lists, after, room, source, (None, told.1 ∙ zero, told.0, kept))
-input-with old new was lists b (Err e) status place before after room source told zero kept none =
-    rw before (lists, after, room, source, (Some e, told.1, told.0, none))
+input-with old new was lists b (Ok s) status place before after room source pointers told zero kept none =
+    rw before (lists, after, room, source, pointers, (None, told.1 ∙ zero, told.0, kept))
+input-with old new was lists b (Err e) status place before after room source pointers told zero kept none =
+    rw before (lists, after, room, source, pointers, (Some e, told.1, told.0, none))
 
 pub returns-in-Some : goal.returns-in-Some
 returns-in-Some c =
@@ -29,4 +30,5 @@ returns-in-Some c =
     let s = c.keep-outcome.ensures in
     let told = c.reported.ensures in
     rw to_z-of_z
-    (input-with _ _ lists _ _ c.keep-outcome.result _ _ was c.open.ensures room s.capacity (told.place, told.status) s.zero s.kept s.fault)
+    (input-with _ _ lists _ _ c.keep-outcome.result _ _ was c.open.ensures room s.capacity refl (told.place, told.status) s.zero s.kept
+    s.fault)
