@@ -16,12 +16,15 @@
 
 #include <simd_json.h>
 
+#include <algorithm>
 #include <cstddef>
 #include <cstdint>
 #include <cstring>
 #include <exception>
 #include <functional>
+#include <initializer_list>
 #include <iterator>
+#include <map>
 #include <memory>
 #include <new>
 #include <optional>
@@ -34,6 +37,7 @@
 #include <string_view>
 #include <type_traits>
 #include <utility>
+#include <vector>
 
 namespace simd_json {
 
@@ -123,10 +127,10 @@ inline constexpr bool is_scalar = std::is_arithmetic_v<T> || std::is_same_v<T, s
                                   || std::is_convertible_v<const T &, std::string_view>;
 
 /* A value of a document, which may be copied; a default one is null. It is valid until its parser
- * parses again, is destroyed or has another moved into it, and as long as a string that was parsed
- * in place is unchanged. Without NDEBUG it throws std::logic_error, before it reads, once its
- * parser has begun another parse; with NDEBUG it does not, since with the test loops over a large
- * document take 4 to 117 % longer. The rest is not tested. */
+ * parses again (of parser.pointer: scans; of fields: gets), is destroyed or has another moved into
+ * it, and as long as a string that was parsed in place is unchanged. Without NDEBUG it throws
+ * std::logic_error, before it reads, once its parser has begun that; with NDEBUG it does not, since
+ * with the test loops over a large document take 4 to 117 % longer. The rest is not tested. */
 class element {
     template <class T>
     static constexpr bool is_index = (std::is_integral_v<T> || std::is_enum_v<T>)
@@ -289,6 +293,7 @@ public:
 private:
     template <bool> friend class members;
     friend class parser;
+    friend class fields;
     friend std::string to_string(const element &, uint32_t);
 
     /* A document of a parser, and how many parses that has begun. */
@@ -299,19 +304,23 @@ private:
     static constexpr simd_json_node null_node{};
     static constexpr simd_json_document null_document{&null_node, 1, nullptr, 0};
 
+    explicit element(const lent &from) : element(from.nodes, &from, from.parses) {}
+    element ahead(size_t nodes) const {
+        element at = *this;
+        at.node_ += nodes;
+        return at;
+    }
+
+    /* It is valid until `calls`, which is of a parser, changes. */
 #ifdef NDEBUG
-    explicit element(const lent &from) : element(from.nodes, &from) {}
-    element(const simd_json_node *node, const simd_json_document *document)
+    element(const simd_json_node *node, const simd_json_document *document, const uint64_t &)
         : node_(node), document_(document) {}
-    element ahead(size_t nodes) const { return {node_ + nodes, document_}; }
     const simd_json_node &node() const { return *node_; }
 #else
-    explicit element(const lent &from) : element(from.nodes, &from, from.parses) {}
-    element(const simd_json_node *node, const simd_json_document *document, uint64_t parse)
-        : node_(node), document_(document), parse_(parse) {}
-    element ahead(size_t nodes) const { return {node_ + nodes, document_, parse_}; }
+    element(const simd_json_node *node, const simd_json_document *document, const uint64_t &calls)
+        : node_(node), document_(document), calls_(&calls), call_(calls) {}
     const simd_json_node &node() const {
-        if (parse_ != 0 && parse_ != static_cast<const lent *>(document_)->parses)
+        if (calls_ && *calls_ != call_)
             throw std::logic_error("simd_json: an element of an earlier parse");
         return *node_;
     }
@@ -367,7 +376,8 @@ private:
     const simd_json_node *node_;
     const simd_json_document *document_;
 #ifndef NDEBUG
-    uint64_t parse_ = 0; /* of the parser that lent the document, or 0 where none did */
+    const uint64_t *calls_ = nullptr; /* of the parser that lent the document, if one did */
+    uint64_t call_ = 0;
 #endif
 };
 
@@ -528,15 +538,24 @@ public:
     /* Values on demand: keeps a copy of the text, instead of the one before, for pointer(). Only
      * its size and encoding are checked, that strings end and contain no byte below 0x20, and all
      * of one word or number: throws such an error, or std::bad_alloc. */
-    void scan(std::string_view text) { call(text, &parser::try_scan); }
+    void scan(std::string_view text) {
+        decltype(state::found) ended; /* whose strings may be the text */
+        if (state_) {
+            ended.swap(state_->found);
+            state_->scans++;
+        }
+        call(text, &parser::try_scan);
+    }
 
     /* The value that a JSON Pointer (RFC 6901) names in the text that is kept, or nothing if the
-     * text is a document without it. It is a document of the parser, so it is valid until the next
-     * call. Only the value and what is on the way to it are checked: it may also be found in a text
-     * that is not a document. If it is absent or malformed all is checked, once: throws the first
-     * error of the text, whose places count from the first byte of its root, or std::bad_alloc;
-     * and std::invalid_argument if the pointer is malformed. */
+     * text is a document without it. It is kept, and so valid, until the next scan. Only the value
+     * and what is on the way to it are checked: it may also be found in a text that is not a
+     * document. If it is absent or malformed all is checked, once: throws the first error of the
+     * text, whose places count from the first byte of its root, or std::bad_alloc; and
+     * std::invalid_argument if the pointer is malformed. */
     std::optional<element> pointer(std::string_view pointer) & {
+        if (const auto known = state_ ? state_->known(pointer) : std::nullopt)
+            return known;
         std::string kept;
         own(pointer, kept);
         require_pointer(pointer);
@@ -545,7 +564,7 @@ public:
         const std::optional<size_t> len = in ? in->find(pointer) : std::nullopt;
         const int32_t status = len ? in->parse(in->input.get(), *len, place) : SIMD_JSON_NO_VALUE;
         if (status == SIMD_JSON_OK)
-            return root();
+            return in->known(pointer, &in->document);
         if (status == SIMD_JSON_OUT_OF_MEMORY)
             throw std::bad_alloc();
         if (in && in->unchecked) {
@@ -569,7 +588,14 @@ public:
     element root() const && = delete;
 
 private:
+    friend class fields;
     static constexpr simd_json_place nowhere{0, SIMD_JSON_NO_CHARACTER};
+
+    /* A value that was found, and its memory: the nodes, and behind them the text. */
+    struct found_value {
+        simd_json_document document;
+        std::unique_ptr<simd_json_node[]> memory;
+    };
 
     /* Behind a pointer, so that the document and its text stay in place when the parser is moved: a
      * short string has its bytes in itself. */
@@ -579,6 +605,8 @@ private:
         std::unique_ptr<char[]> input; /* a copy of a text */
         size_t capacity = 0;
         size_t unchecked = 0; /* the scanned text's length, unless it is known to be a document */
+        std::map<std::string, found_value, std::less<>> found; /* in that text, by their pointers */
+        uint64_t scans = 0;
 
         state() = default;
         state(const state &) = delete;
@@ -608,6 +636,23 @@ private:
                     return std::nullopt;
                 reserve(found.len);
             }
+        }
+        /* What was found before by a pointer, or else a document, which is kept. */
+        std::optional<element> known(std::string_view pointer,
+                                     const simd_json_document *of = nullptr) {
+            auto at = found.find(pointer);
+            if (at == found.end() && of) {
+                const size_t units = of->nodes_len + of->text_len / sizeof *of->nodes + 1;
+                found_value in{*of, std::unique_ptr<simd_json_node[]>(new simd_json_node[units])};
+                void *const text = in.memory.get() + of->nodes_len;
+                std::copy_n(of->nodes, of->nodes_len, in.memory.get());
+                in.document.nodes = in.memory.get();
+                in.document.text = static_cast<char *>(std::memcpy(text, of->text, of->text_len));
+                at = found.emplace(pointer, std::move(in)).first;
+            }
+            if (at == found.end())
+                return std::nullopt;
+            return element(at->second.document.nodes, &at->second.document, scans);
         }
         void forget() {
             static_cast<simd_json_document &>(document) = {};
@@ -688,6 +733,115 @@ private:
     }
 
     std::unique_ptr<state> state_;
+};
+
+/* The values of several JSON Pointers (RFC 6901) in one text after another, each found in one walk:
+ *
+ *     simd_json::fields wanted({"/status", "/request/path"});
+ *     for (std::string line; std::getline(in, line);)
+ *         if (const auto &found = wanted.get(line); found[0] == 404 && found[1])
+ *             std::cout << found[1]->as<std::string_view>() << '\n';
+ *
+ * It may be moved, as a parser. One thread uses it at a time. */
+class fields {
+public:
+    /* For pointers in braces, or in any container of strings. Throws std::invalid_argument if one
+     * is malformed or not UTF-8, or std::bad_alloc. */
+    template <class Pointers = std::initializer_list<std::string_view>,
+              std::enable_if_t<std::is_convertible_v<
+                  decltype(*std::begin(std::declval<const Pointers &>())), std::string_view>, int> = 0>
+    explicit fields(const Pointers &pointers, size_t max_depth = 1024)
+        : parser_(max_depth < SIZE_MAX ? max_depth + 1 : max_depth), max_depth_(max_depth) {
+        for (const std::string_view pointer : pointers) {
+            require_pointer(pointer);
+            const int32_t status = simd_json_parser_add(&parser_.state_->parser, pointer.data(),
+                                                        pointer.size());
+            if (status == SIMD_JSON_INVALID_POINTER)
+                throw std::invalid_argument("simd_json: a JSON Pointer that is not UTF-8");
+            parser::check_status(status, parser::nowhere);
+            found_.emplace_back();
+        }
+        nodes_.resize(found_.size());
+        values_.resize(found_.size());
+    }
+
+    /* Of each pointer, in their order, the value or nothing, until the next get. Strings without
+     * escapes and literals are in the text, which must live and stay unchanged as long; other
+     * strings, arrays and objects are parsed from a copy. Throws an error of the whole text as
+     * parser.scan does, or std::bad_alloc. Only the values and what is on the way to them are
+     * checked, but if one is absent or malformed all is: throws the first error of the text. */
+    const std::vector<std::optional<element>> &get(std::string_view text) & {
+        simd_json_place place;
+        parser::state *const in = parser_.begin(place);
+        int32_t status = SIMD_JSON_PARSER_CLOSED;
+        if (in)
+            status = simd_json_parser_pointers(&in->parser, text.data(), text.size(),
+                                               found_.data(), found_.size(), &place);
+        parser::check_status(status, place, text);
+        std::vector<char> &copy = copies_[is_within(text, copies_[0])];
+        copy.clear();
+        *line_ = {nodes_.data(), nodes_.size(), text.data(), text.size()};
+        bool is_missing = false;
+        for (size_t i = 0; i < found_.size(); i++) {
+            const simd_json_field &of = found_[i];
+            const uint32_t quotes = of.kind == SIMD_JSON_STRING;
+            nodes_[i] = {of.kind, static_cast<uint32_t>(of.len) - 2 * quotes, of.value + quotes};
+            values_[i] = element(&nodes_[i], line_.get(), in->document.parses);
+            is_missing |= of.kind == SIMD_JSON_MISSING;
+            if (of.kind == SIMD_JSON_MISSING)
+                values_[i].reset();
+            if (!is_parsed(of))
+                continue;
+            copy.push_back(copy.empty() ? '[' : ',');
+            copy.insert(copy.end(), text.data() + of.value, text.data() + of.value + of.len);
+        }
+        if (is_missing)
+            check(text);
+        if (!copy.empty())
+            parse(*in, copy, text);
+        return values_;
+    }
+    const std::vector<std::optional<element>> &get(std::string_view) && = delete;
+    template <class T, std::enable_if_t<std::is_same_v<T, std::string>, int> = 0>
+    const std::vector<std::optional<element>> &get(T &&) & = delete;
+
+private:
+    static bool is_parsed(const simd_json_field &of) {
+        return of.has_escape || of.kind == SIMD_JSON_ARRAY || of.kind == SIMD_JSON_OBJECT;
+    }
+    static bool is_within(std::string_view text, const std::vector<char> &in) {
+        const std::less<const char *> is_before;
+        return !is_before(text.data(), in.data()) && is_before(text.data(), in.data() + in.size());
+    }
+    void check(std::string_view text) const {
+        simd_json_place place;
+        const int32_t status = simd_json_check(text.data(), text.size(), max_depth_, &place);
+        parser::check_status(status, place, text);
+    }
+    /* An array of what is parsed. */
+    void parse(parser::state &in, std::vector<char> &copy, std::string_view text) {
+        simd_json_place place;
+        copy.push_back(']');
+        const int32_t status = in.parse(copy.data(), copy.size(), place);
+        if (status != SIMD_JSON_OK && status != SIMD_JSON_OUT_OF_MEMORY)
+            check(text);
+        parser::check_status(status, place);
+        size_t at = 1;
+        for (size_t i = 0; i < found_.size(); i++) {
+            if (!is_parsed(found_[i]))
+                continue;
+            values_[i] = element(in.document.nodes + at, &in.document, in.document.parses);
+            at = simd_json_next(in.document.nodes, at);
+        }
+    }
+
+    parser parser_; /* for one array more */
+    size_t max_depth_;
+    std::vector<simd_json_field> found_;
+    std::vector<simd_json_node> nodes_; /* of what is in the text */
+    std::unique_ptr<simd_json_document> line_ = std::make_unique<simd_json_document>();
+    std::vector<std::optional<element>> values_;
+    std::vector<char> copies_[2]; /* one is parsed, the text may be a string in the other */
 };
 
 } // inline namespace

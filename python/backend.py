@@ -52,7 +52,7 @@ def compiled():
         else:
             parts = [HERE / "native.c", LIBRARY / "libsimd_json.a"]
         out = folder / "_native.abi3.so"
-        run(*compiler, "-shared", "-s", *parts, "-o", out)
+        run(*compiler, "-shared", "-s", "-Wl,-z,relro,-z,now", *parts, "-o", out)
         return out.read_bytes()
 
 

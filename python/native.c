@@ -180,6 +180,14 @@ static int is_taken(PyObject *data, const text *of) {
     return of->len <= UINT32_MAX;
 }
 
+/* Takes an input whose bytes no code of users changes. */
+static int input_of(PyObject *data, text *of) {
+    if (!text_of(data, of) || !is_taken(data, of) || !PyByteArray_Check(data))
+        return !PyErr_Occurred();
+    of->owned = PyBytes_FromStringAndSize(of->bytes, of->len);
+    return of->owned && PyBytes_AsStringAndSize(of->owned, &of->bytes, &of->len) == 0;
+}
+
 /* Opens the parser for a depth limit, and an input of such a length. */
 static int prepare(memory *m, size_t max_depth, Py_ssize_t len) {
     if (m->longest < (size_t)len)
@@ -555,18 +563,18 @@ static void let_go(const arguments *given) {
         Py_XDECREF(given->hooks[i]);
 }
 
-/* Takes and keeps what is given by name. First comes what may call code of users, which is over before the others are
- * taken. */
-static int take_named(arguments *given, PyObject *named, const char *format) {
-    static char *names[] = {"max_depth", "object_hook", "parse_float", "parse_int", "parse_constant",
-                            "object_pairs_hook", NULL};
+/* Takes and keeps what is given by name, but `none`, where it is asked for. First comes what may call code of users,
+ * which is over before the others are taken. */
+static int take_named(arguments *given, PyObject *named, const char *format, PyObject **none) {
+    char *names[] = {"max_depth", "object_hook", "parse_float", "parse_int", "parse_constant", "object_pairs_hook",
+                     none ? "default" : NULL, NULL};
     static PyTypeObject *const made[HOOKS] = {&PyFloat_Type, &PyLong_Type, NULL, NULL};
     if (!named)
         return 1;
     PyObject **hooks = given->hooks, *constant = NULL, *unnamed = PyTuple_New(0);
     int is_taken = unnamed && PyArg_ParseTupleAndKeywords(
                                   unnamed, named, format, names, &given->max_depth, &hooks[OBJECT_HOOK],
-                                  &hooks[PARSE_FLOAT], &hooks[PARSE_INT], &constant, &hooks[OBJECT_PAIRS_HOOK]);
+                                  &hooks[PARSE_FLOAT], &hooks[PARSE_INT], &constant, &hooks[OBJECT_PAIRS_HOOK], none);
     Py_XDECREF(unnamed);
     if (!is_taken || !is_depth(given->max_depth))
         return 0;
@@ -630,9 +638,17 @@ static PyObject *check_in(memory *kept, PyObject *data, Py_ssize_t max_depth) {
     return none_if(is_right);
 }
 
+/* Takes the text of a JSON Pointer, which must be a str. */
+static int pointer_of(PyObject *pointer, text *of) {
+    *of = (text){NULL, 0, NULL};
+    if (PyUnicode_Check(pointer))
+        return utf8_of(pointer, of);
+    PyErr_Format(PyExc_TypeError, "the JSON Pointer must be str, not %R", Py_TYPE(pointer));
+    return 0;
+}
+
 /* Whether a text is a JSON Pointer (RFC 6901, section 3); else an error is raised. */
-static int is_pointer(PyObject *pointer, const text *of) {
-    int is_right = simd_json_is_pointer(of->bytes, (size_t)of->len);
+static int is_pointer(PyObject *pointer, int is_right) {
     if (!is_right)
         PyErr_Format(PyExc_ValueError, "%R is no JSON Pointer (RFC 6901): write '/' before each key and index, as in"
                                        " '/users/0/name', and in a key '~1' for '/' and '~0' for '~'", pointer);
@@ -644,12 +660,8 @@ static int is_pointer(PyObject *pointer, const text *of) {
 static int find(memory *in, PyObject *pointer, memory *to, size_t max_depth) {
     simd_json_found found = {0, 0};
     simd_json_place place;
-    text of = {NULL, 0, NULL};
-    if (!PyUnicode_Check(pointer)) {
-        PyErr_Format(PyExc_TypeError, "the JSON Pointer must be str, not %R", Py_TYPE(pointer));
-        return -1;
-    }
-    int is_asked = utf8_of(pointer, &of) && is_pointer(pointer, &of);
+    text of;
+    int is_asked = pointer_of(pointer, &of) && is_pointer(pointer, simd_json_is_pointer(of.bytes, (size_t)of.len));
     int32_t status = SIMD_JSON_TOO_LITTLE_ROOM;
     while (is_asked && status == SIMD_JSON_TOO_LITTLE_ROOM) {
         status = simd_json_parser_pointer(&in->parser, of.bytes, (size_t)of.len, &found, to->input, to->input_cap);
@@ -703,7 +715,7 @@ static void keep_little(void) {
 static PyObject *loads(PyObject *module, PyObject *args, PyObject *named) {
     (void)module;
     arguments given = {NULL, {NULL}, 1024};
-    if (!PyArg_ParseTuple(args, "O:loads", &given.data) || !take_named(&given, named, "|$nOOOOO:loads"))
+    if (!PyArg_ParseTuple(args, "O:loads", &given.data) || !take_named(&given, named, "|$nOOOOO:loads", NULL))
         return NULL;
     PyObject *value = loads_in(&shared, &given);
     let_go(&given);
@@ -757,6 +769,8 @@ typedef struct {
     PyObject_HEAD memory kept, indexed;
     Py_ssize_t max_depth;
     PyObject *hooks[HOOKS], *scanned; /* the input that is indexed, until it is known to be a document */
+    PyObject *none;                   /* of Fields, whose pointers `indexed` has: of an absent value */
+    size_t count;
 } parser;
 
 /* What a subclass has that does not call __init__. */
@@ -770,7 +784,7 @@ static PyObject *parser_new(PyTypeObject *type, PyObject *args, PyObject *named)
 static int parser_init(PyObject *self, PyObject *args, PyObject *named) {
     parser *p = (parser *)self;
     arguments given = {NULL, {NULL}, 1024}, old;
-    if (!PyArg_ParseTuple(args, ":Parser") || !take_named(&given, named, "|$nOOOOO:Parser"))
+    if (!PyArg_ParseTuple(args, ":Parser") || !take_named(&given, named, "|$nOOOOO:Parser", NULL))
         return -1;
     memcpy(old.hooks, p->hooks, sizeof old.hooks);
     memcpy(p->hooks, given.hooks, sizeof old.hooks);
@@ -784,6 +798,7 @@ static int parser_traverse(PyObject *self, visitproc visit, void *arg) {
     for (int i = 0; i < HOOKS; i++)
         Py_VISIT(((parser *)self)->hooks[i]);
     Py_VISIT(((parser *)self)->scanned);
+    Py_VISIT(((parser *)self)->none);
     Py_VISIT(Py_TYPE(self));
     return 0;
 }
@@ -792,6 +807,7 @@ static int parser_clear(PyObject *self) {
     for (int i = 0; i < HOOKS; i++)
         Py_CLEAR(((parser *)self)->hooks[i]);
     Py_CLEAR(((parser *)self)->scanned);
+    Py_CLEAR(((parser *)self)->none);
     return 0;
 }
 
@@ -906,6 +922,168 @@ static PyType_Spec parser_spec = {"simd_json.Parser", sizeof(parser), 0,
                                   Py_TPFLAGS_DEFAULT | Py_TPFLAGS_BASETYPE | Py_TPFLAGS_HAVE_GC,
                                   parser_slots};
 
+/* Adds pointers, a tuple, to a parser. No code of users runs. */
+static int add_pointers(memory *to, PyObject *pointers, size_t count) {
+    for (size_t i = 0; i < count; i++) {
+        PyObject *pointer = PyTuple_GetItem(pointers, (Py_ssize_t)i);
+        text of;
+        int32_t status = SIMD_JSON_OUT_OF_MEMORY;
+        int is_taken = pointer_of(pointer, &of);
+        if (is_taken && (status = simd_json_parser_add(&to->parser, of.bytes, (size_t)of.len)) == SIMD_JSON_OUT_OF_MEMORY)
+            PyErr_NoMemory();
+        Py_XDECREF(of.owned);
+        if (!is_taken || status == SIMD_JSON_OUT_OF_MEMORY || !is_pointer(pointer, status == SIMD_JSON_OK))
+            return 0;
+    }
+    return 1;
+}
+
+static int fields_init(PyObject *self, PyObject *args, PyObject *named) {
+    parser *p = (parser *)self;
+    arguments given = {NULL, {NULL}, 1024};
+    memory made = {.in_use = 0};
+    PyObject *none = Py_None, *pointers = NULL;
+    if (!PyArg_ParseTuple(args, "O:Fields", &given.data) || !take_named(&given, named, "|$nOOOOOO:Fields", &none))
+        return -1;
+    Py_INCREF(none);
+    if (PyUnicode_Check(given.data))
+        PyErr_SetString(PyExc_TypeError, "the JSON Pointers must be an iterable of str, not one str");
+    else
+        pointers = PySequence_Tuple(given.data);
+    const size_t count = pointers ? (size_t)PyTuple_Size(pointers) : 0;
+    const int is_made = pointers && is_free(&p->indexed) && prepare(&made, (size_t)given.max_depth, 0) &&
+                        add_pointers(&made, pointers, count);
+    if (is_made) {
+        const parser old = *p;
+        p->indexed = made, p->count = count, p->none = none, p->max_depth = given.max_depth;
+        memcpy(p->hooks, given.hooks, sizeof given.hooks);
+        made = old.indexed, none = old.none;
+        memcpy(given.hooks, old.hooks, sizeof given.hooks);
+    }
+    release(&made);
+    let_go(&given);
+    Py_XDECREF(none);
+    Py_XDECREF(pointers);
+    return is_made ? 0 : -1;
+}
+
+/* Finds the fields of an input, and checks it if one is missing; else an error is raised. */
+static int find_fields(memory *m, const text *of, simd_json_field *found, size_t count, const arguments *given) {
+    simd_json_place place;
+    int is_missing = 0;
+    if (!prepare(m, m->max_depth, of->len)) /* open, but of a subclass that does not call __init__ */
+        return 0;
+    m->in_use = 1;
+    PyThreadState *others = of->len > LONG ? PyEval_SaveThread() : NULL;
+    int32_t status = simd_json_parser_pointers(&m->parser, of->bytes, (size_t)of->len, found, count, &place);
+    for (size_t i = 0; i < count && status == SIMD_JSON_OK; i++)
+        is_missing |= found[i].kind == SIMD_JSON_MISSING;
+    if (is_missing)
+        status = simd_json_check(of->bytes, (size_t)of->len, (size_t)given->max_depth, &place);
+    if (others)
+        PyEval_RestoreThread(others);
+    m->in_use = 0;
+    return status == SIMD_JSON_OK || reject(status, &place, given->data, of) != NULL;
+}
+
+/* The value of a field. A string with an escape, an array or an object is parsed from a copy. */
+static PyObject *field_value(const text *of, const simd_json_field *field, memory *m, arguments *given, PyObject *none) {
+    const uint32_t quotes = field->kind == SIMD_JSON_STRING;
+    const simd_json_node node = {field->kind, (uint32_t)field->len - 2 * quotes, field->value + quotes};
+    if (field->kind < SIMD_JSON_ARRAY && !field->has_escape) {
+        memory line;
+        line.document = (simd_json_document){&node, 1, of->bytes, (size_t)of->len};
+        return to_hooked_scalar(&line, &node, given->hooks);
+    }
+    if (field->kind != SIMD_JSON_MISSING) {
+        simd_json_place place;
+        if (!grow(&m->input, &m->input_cap, field->len, 1) || !prepare(m, (size_t)given->max_depth, (Py_ssize_t)field->len))
+            return NULL;
+        memcpy(m->input, of->bytes + field->value, field->len);
+        int32_t status = simd_json_parser_parse(&m->parser, m->input, field->len, &m->document, &place);
+        if (status == SIMD_JSON_OK)
+            return build_any(m, given->hooks);
+        if (status != SIMD_JSON_OUT_OF_MEMORY)
+            status = simd_json_check(of->bytes, (size_t)of->len, (size_t)given->max_depth, &place);
+        if (status != SIMD_JSON_OK)
+            return reject(status, &place, given->data, of);
+    }
+    Py_INCREF(none);
+    return none;
+}
+
+/* A tuple of the values, which are held until all are made: code of users sees no unfinished one. */
+static PyObject *field_values(const text *of, const simd_json_field *found, held *values, memory *m, arguments *given,
+                              PyObject *none) {
+    const size_t count = values->cap;
+    for (size_t i = 0; i < count; i++)
+        if (!hold(values, field_value(of, &found[i], m, given, none)))
+            return NULL;
+    PyObject *tuple = PyTuple_New((Py_ssize_t)count);
+    for (size_t i = 0; tuple && i < count; i++)
+        PyTuple_SetItem(tuple, (Py_ssize_t)i, values->values[i]);
+    if (tuple)
+        values->len = 0;
+    return tuple;
+}
+
+static PyObject *fields_get(PyObject *self, PyObject *data) {
+    enum { FEW = 16 };
+    parser *p = (parser *)self;
+    simd_json_field few[FEW], *found = few;
+    PyObject *few_values[FEW], *tuple = NULL, *none = p->none ? p->none : Py_None;
+    arguments given = begin_call(self, data);
+    Py_INCREF(none);
+    text of;
+    if (input_of(data, &of) && is_free(&p->indexed)) {
+        held values = {few_values, 0, p->count};
+        if (values.cap > FEW) {
+            found = malloc(values.cap * sizeof *found);
+            values.values = malloc(values.cap * sizeof *values.values);
+        }
+        memory own, *m = take(&p->kept, &own);
+        if (!found || !values.values)
+            PyErr_NoMemory();
+        else if (find_fields(&p->indexed, &of, found, values.cap, &given))
+            tuple = field_values(&of, found, &values, m, &given, none);
+        give_back(m, &own);
+        drop(&values, 0);
+        if (found != few)
+            free(found);
+        if (values.values != few_values)
+            free(values.values);
+    }
+    Py_XDECREF(of.owned);
+    Py_DECREF(none);
+    return end_call(self, &given, tuple);
+}
+
+static PyMethodDef fields_methods[] = {
+    {"get", fields_get, METH_O,
+     "get($self, data, /)\n--\n\n"
+     "A tuple of what the pointers name in an input, each as loads makes it, or default.\n\n"
+     "Only these values and what is on the way to them are checked, as by Parser.pointer. Where one is malformed or\n"
+     "absent, the input is checked: SimdJsonError is raised as by loads."},
+    {NULL, NULL, 0, NULL},
+};
+
+static PyType_Slot fields_slots[] = {
+    {Py_tp_doc, "Fields(pointers, /, *, default=None, max_depth=1024, object_hook=None, parse_float=None,"
+                " parse_int=None, parse_constant=None, object_pairs_hook=None)\n--\n\n"
+                "Finds the values of some JSON Pointers (RFC 6901) in one input after another."},
+    {Py_tp_new, parser_new},
+    {Py_tp_init, fields_init},
+    {Py_tp_traverse, parser_traverse},
+    {Py_tp_clear, parser_clear},
+    {Py_tp_dealloc, parser_free},
+    {Py_tp_methods, fields_methods},
+    {0, NULL},
+};
+
+static PyType_Spec fields_spec = {"simd_json.Fields", sizeof(parser), 0,
+                                  Py_TPFLAGS_DEFAULT | Py_TPFLAGS_BASETYPE | Py_TPFLAGS_HAVE_GC,
+                                  fields_slots};
+
 static PyObject *set_error(PyObject *module, PyObject *function) {
     (void)module;
     Py_INCREF(function);
@@ -963,15 +1141,20 @@ static int is_home(void) {
 #define TEXT(number) #number
 #define VERSION(major, minor, patch) TEXT(major) "." TEXT(minor) "." TEXT(patch)
 
+static int add_type(PyObject *module, const char *name, PyType_Spec *spec) {
+    PyObject *type = PyType_FromSpec(spec);
+    if (type && PyModule_AddObject(module, name, type) == 0)
+        return 0;
+    Py_XDECREF(type);
+    return -1;
+}
+
 static int begin(PyObject *module) {
     const char *version = VERSION(SIMD_JSON_VERSION_MAJOR, SIMD_JSON_VERSION_MINOR, SIMD_JSON_VERSION_PATCH);
-    PyObject *type = is_home() ? PyType_FromSpec(&parser_spec) : NULL;
-    if (!type || PyModule_AddStringConstant(module, "__version__", version) < 0
-        || PyModule_AddObject(module, "Parser", type) < 0) {
-        Py_XDECREF(type);
-        return -1;
-    }
-    return 0;
+    return is_home() && PyModule_AddStringConstant(module, "__version__", version) == 0 &&
+                   add_type(module, "Parser", &parser_spec) == 0 && add_type(module, "Fields", &fields_spec) == 0
+               ? 0
+               : -1;
 }
 
 static PyModuleDef_Slot slots[] = {{Py_mod_exec, begin}, {0, NULL}};

@@ -16,7 +16,7 @@ from json import JSONDecodeError, JSONEncoder, dump, dumps
 from . import _native
 from ._native import __version__, check, loads, pointer
 
-__all__ = ["JSONDecodeError", "JSONEncoder", "Parser", "SimdJsonError", "check", "dump", "dumps", "load", "loads",
+__all__ = ["Fields", "JSONDecodeError", "JSONEncoder", "Parser", "SimdJsonError", "check", "dump", "dumps", "load", "loads",
            "pointer"]
 
 
@@ -92,22 +92,40 @@ class Parser(_native.Parser):
         lineno. If on_error is given, it is called with the error instead, and the next line is
         read.
         """
-        for number, line in enumerate(file, 1):
-            if isinstance(line, memoryview):
-                line = bytes(line)
-            is_text = isinstance(line, (str, bytes, bytearray))  # else a TypeError is raised
-            if not is_text or line.strip(" \t\r\n" if isinstance(line, str) else b" \t\r\n"):
-                try:
-                    value = self.loads(line)
-                except SimdJsonError as error:
-                    if error.doc is not line:  # of what a hook has parsed
-                        raise
-                    # what is open there begins in this line too
-                    msg = error.msg.replace(" begins at 1:", f" begins at {number}:")
-                    error = SimdJsonError(msg, line, error.pos, error.reason, number, error.colno,
-                                          error.shown)
-                    if on_error is None:
-                        raise error from None
-                    on_error(error)
-                else:
-                    yield value
+        return _lines(self.loads, file, on_error)
+
+
+class Fields(_native.Fields):
+    """Finds the values of some JSON Pointers (RFC 6901) in one input after another.
+
+    Fields(["/status", "/request/path"], *, default=None, ..): as Parser has them. One thread may use
+    it at a time.
+    """
+
+    __slots__ = ()
+
+    def lines(self, file, *, on_error=None):
+        """What get returns of each line, by Parser.lines."""
+        return _lines(self.get, file, on_error)
+
+
+def _lines(read, file, on_error):
+    for number, line in enumerate(file, 1):
+        if isinstance(line, memoryview):
+            line = bytes(line)
+        is_text = isinstance(line, (str, bytes, bytearray))  # else a TypeError is raised
+        if not is_text or line.strip(" \t\r\n" if isinstance(line, str) else b" \t\r\n"):
+            try:
+                value = read(line)
+            except SimdJsonError as error:
+                if error.doc is not line:  # of what a hook has parsed
+                    raise
+                # what is open there begins in this line too
+                msg = error.msg.replace(" begins at 1:", f" begins at {number}:")
+                error = SimdJsonError(msg, line, error.pos, error.reason, number, error.colno,
+                                      error.shown)
+                if on_error is None:
+                    raise error from None
+                on_error(error)
+            else:
+                yield value

@@ -72,3 +72,22 @@ class Parser:
     def lines(
         self, file: Iterable[_Text], *, on_error: Callable[[SimdJsonError], object] | None = None
     ) -> Iterator[Any]: ...
+
+class Fields:
+    def __init__(
+        self,
+        pointers: Iterable[str],
+        /,
+        *,
+        default: Any = None,
+        max_depth: int = 1024,
+        object_hook: Callable[[dict[str, Any]], Any] | None = None,
+        parse_float: Callable[[str], Any] | None = None,
+        parse_int: Callable[[str], Any] | None = None,
+        parse_constant: None = None,
+        object_pairs_hook: Callable[[list[tuple[str, Any]]], Any] | None = None,
+    ) -> None: ...
+    def get(self, data: _Text, /) -> tuple[Any, ...]: ...
+    def lines(
+        self, file: Iterable[_Text], *, on_error: Callable[[SimdJsonError], object] | None = None
+    ) -> Iterator[tuple[Any, ...]]: ...

@@ -15,7 +15,8 @@ static const char again[] = "import sys\n"
                             "for name in [name for name in sys.modules if name.startswith('simd_json')]:\n"
                             "    del sys.modules[name]\n"
                             "import simd_json\n"
-                            "assert simd_json.Parser().loads('{\"key\":[]}') == {'key': []}\n";
+                            "assert simd_json.Parser().loads('{\"key\":[]}') == {'key': []}\n"
+                            "assert simd_json.Fields(['/key', '']).get('{\"key\":[]}') == ([], {'key': []})\n";
 static const char other[] = "try:\n"
                             "    import simd_json\n"
                             "except ImportError as error:\n"

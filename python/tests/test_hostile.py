@@ -20,6 +20,7 @@ import simd_json
 ROUNDS = int(os.environ.get("ROUNDS", "2000"))
 THREADS = 4
 SHARED = simd_json.Parser(parse_float=str)
+FIELDS = simd_json.Fields(["/2", "/absent", "/0", ""], parse_float=str)
 
 
 LOOK = threading.RLock()  # since lists of all objects would hold each other
@@ -133,6 +134,7 @@ class Hostile:
         try:
             SHARED.scan(text)
             SHARED.pointer("/2"), SHARED.pointer("/absent")
+            FIELDS.get(text)
         except RuntimeError as error:
             assert "another thread" in str(error)
 
@@ -162,7 +164,10 @@ class Hostile:
     def call(self, text):
         kind = self.rng.choice([str, bytes, bytearray, memoryview])
         data = self.input = text if kind is str else kind(text.encode())
-        way = self.rng.randrange(6)
+        way = self.rng.randrange(7)
+        if way == 6:
+            self.parser = None
+            return simd_json.Fields([""], parse_float=self.read).get(data)[0]
         if way == 0:
             return simd_json.loads(data, parse_float=self.read)
         if way == 1:

@@ -34,6 +34,8 @@ def calls():
     yield lambda: simd_json.pointer(TEXT, "/absent")
     yield found
     yield absent
+    yield lambda: simd_json.Fields(["/a/2", "/a/3", "/long", "/wide/1"]).get(bytearray(TEXT))
+    yield lambda: simd_json.Fields(["/long/0", "/absent"] * 50, object_hook=id, parse_float=str).get(TEXT)
 
 
 def found():
@@ -125,7 +127,9 @@ class Memory(unittest.TestCase):
         def once():
             for text in (TEXT, b"[1,]", b'{"a":1.5', "\x00", b"\xff"):
                 for call in (simd_json.loads, lambda text: simd_json.loads(text, object_pairs_hook=dict, parse_int=str),
-                             lambda text: simd_json.pointer(text, "/a"), lambda text: simd_json.pointer(text, "/b", [])):
+                             lambda text: simd_json.pointer(text, "/a"), lambda text: simd_json.pointer(text, "/b", []),
+                             simd_json.Fields(["/a", "/long/0", "/b"], default=[]).get,
+                             simd_json.Fields(["/a"] * 20, parse_float=str).get):
                     try:
                         call(text)
                     except simd_json.SimdJsonError:

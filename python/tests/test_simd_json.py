@@ -303,6 +303,123 @@ class Values(unittest.TestCase):
         parser.__init__(max_depth=1)
         self.assertEqual(by(parser.pointer, "").__class__, list)
 
+    def test_fields(self):
+        """What Fields finds, and its error, are those of pointer: of mutants, and of pointers to what their seeds have."""
+        def pointers(value, pointer):
+            yield pointer
+            members = value.items() if type(value) is dict else enumerate(value) if type(value) is list else ()
+            for key, member in members:
+                yield from pointers(member, f"{pointer}/" + str(key).replace("~", "~0").replace("/", "~1"))
+
+        rng = random.Random(2)
+        known = ["", "/0", "/1", "/a", "/a/0", "/absent", "/~0~1"]
+        for seed in mutants.SEEDS:
+            value = by(simd_json.loads, seed)
+            if not isinstance(value, simd_json.SimdJsonError):
+                known += [pointer for pointer in pointers(value, "") if "\ud800" not in pointer]
+        found, wrong = 0, 0
+        for _ in range(MUTANTS // 10):
+            data, names = changed(rng), rng.choices(known, k=rng.choice([1, 2, 3, 9, 40]))
+            named = rng.choice([{}, {"parse_float": str, "parse_int": str}, {"object_pairs_hook": list}, {"max_depth": 2}])
+            parser = simd_json.Parser(**named)
+            scanned = by(parser.scan, data)
+            wanted = [scanned if scanned else by(parser.pointer, name, absent) for name in names]
+            errors = [each for each in wanted if isinstance(each, simd_json.SimdJsonError)]
+            got = by(simd_json.Fields(names, default=absent, **named).get, data)
+            if errors:
+                wrong += 1
+                self.assertEqual((str(got), got.doc), (str(errors[0]), data), names)
+            else:
+                found += 1
+                self.assertEqual(repr(got), repr(tuple(wanted)), (data, names))
+        self.assertGreater(min(found, wrong), MUTANTS // 1000)
+
+    def test_fields_of_each_kind(self):
+        text = ('{"status":404,"path":"/é😀","quoted":"\\"\\u00e9","tags":["x",{"y":[]}],"ratio":-2.50,"wide":18446744073709551616,'
+                '"low":-7,"zero":-0,"on":true,"none":null,"status":1}')
+        names = ["/status", "/path", "/quoted", "/tags", "/ratio", "/wide", "/low", "/zero", "/on", "/none", "/absent", "/tags/1/y",
+                 "/path", ""]
+        whole = json.loads(text)
+        wanted = [404, "/é😀", '"é', ["x", {"y": []}], -2.5, 2**64, -7, 0, True, None, absent, [], "/é😀", whole]
+        fields = simd_json.Fields(iter(names), default=absent)
+        for spaces in (0, 100000):  # while the second is read, other threads run
+            long = " " * spaces + text
+            for kind in (str, str.encode, lambda text: bytearray(text.encode()), lambda text: memoryview(text.encode())):
+                self.assertEqual(repr(fields.get(kind(long))), repr(tuple(wanted)))
+        self.assertEqual(simd_json.Fields(("/zero", "/ratio"), parse_int=str, parse_float=str).get(text), ("-0", "-2.50"))
+        self.assertEqual(simd_json.Fields([]).get(b"[1"), ())
+        self.assertEqual(by(simd_json.Fields([]).get, b'["\xff"]').reason, "InvalidUtf8")
+        many = [f"/{i % 700}" for i in range(1000)]
+        self.assertEqual(simd_json.Fields(many).get(str(list(range(700)))), tuple(i % 700 for i in range(1000)))
+        self.assertEqual(simd_json.Fields(["/a"]).get("7"), (None,))
+        self.assertEqual(simd_json.Fields(["/a", "/b"]).get('{"a":1,"b":"\\n"} x'), (1, "\n"))  # no document, as by pointer
+
+    def test_fields_s_arguments(self):
+        Fields = simd_json.Fields
+        for given, error in (((), TypeError), (("/a",), TypeError), (([1],), TypeError), ((1,), TypeError), (([b"/a"],), TypeError),
+                             ((["/a", "a"],), ValueError), ((["/~"],), ValueError), ((["/\ud800"],), ValueError), (([""], None), TypeError)):
+            self.assertRaises(error, Fields, *given)
+        for named, error in (({"max_depth": -1}, ValueError), ({"max_depth": "1"}, TypeError), ({"strict": True}, TypeError),
+                             ({"parse_constant": float}, TypeError)):
+            self.assertRaises(error, Fields, [""], **named)
+        self.assertRaises(TypeError, simd_json.Parser, default=1)
+        self.assertRaises(TypeError, simd_json.loads, "1", default=1)
+        fields = Fields(["/a"], max_depth=2, default=7)
+        self.assertRaises(TypeError, fields.get, 1)
+        self.assertRaises(TypeError, fields.get)
+        self.assertEqual((fields.get('{"a":[]}'), by(fields.get, '{"a":[[[]]]}').reason), (([],), "DepthLimitExceeded"))
+        self.assertRaises(ValueError, fields.__init__, ["b"])
+        self.assertEqual(fields.get('{"a":[]}'), ([],))  # it is as it was
+        fields.__init__(["/b", "/a"])
+        self.assertEqual(fields.get('{"a":[[]]}'), (None, [[]]))
+
+        class Plain(Fields):
+            def __init__(self):
+                pass
+
+        self.assertEqual((Plain().get("[1]"), by(Plain().get, b"\xff").reason), ((), "InvalidUtf8"))
+
+    def test_fields_called_by_their_hooks(self):
+        """Which change the input and the pointers, and call again: the values are of the input and the pointers as they were."""
+        def change(literal):
+            data[:] = b"?" * len(data)
+            seen.append(fields.get('{"a":[2],"b":"\\n"}'))
+            fields.__init__(["/c"], default="other")
+            return literal
+
+        for text in (b'{"a":1.5,"b":[2.5,"\\u00e9"],"c":"d"}', b'{"a":1.5,"b":[2.5,"\\u00e9"],"c":"d"}' + b" " * 100000):
+            data, seen, given = bytearray(text), [], []
+            fields = simd_json.Fields(["/a", "/b", "/c", "/absent"], parse_float=change, default=given)
+            self.assertEqual(fields.get(data), ("1.5", ["2.5", "é"], "d", given))
+            self.assertEqual(seen, [([2], "\n", None if not seen else given, given), ("other",)])
+            self.assertEqual(fields.get('{"c":1.5}'), (1.5,))
+
+        def pointers():
+            yield "/a"
+            fields.__init__(["/b"])
+            yield "/b"
+
+        fields = simd_json.Fields(["/c"])
+        fields.__init__(pointers())
+        self.assertEqual(fields.get('{"a":1,"b":2}'), (1, 2))
+        # Of a cycle nothing is left.
+        fields = simd_json.Fields(["/a"], default=(cycle := []), object_hook=lambda found: fields)
+        cycle.append(fields)
+        gone = weakref.ref(type("Text", (str,), {})("x"))
+        self.assertIs(fields.get('{"a":{}}')[0], fields)
+        del fields, cycle
+        gc.collect()
+        self.assertIsNone(gone())
+
+    def test_lines_of_fields(self):
+        errors, fields = [], simd_json.Fields(["/a", "/b"], default=0)
+        log = [b'{"a":1}\n', b"\n", '{"a":"\\n","b":[]}', bytearray(b'{"a":1'), memoryview(b'{"b":nope}'), "[]"]
+        self.assertEqual(list(fields.lines(log, on_error=errors.append)), [(1, 0), ("\n", []), (0, 0)])
+        self.assertEqual([(error.reason, error.lineno, error.colno) for error in errors], [("Syntax", 4, 6), ("ExpectedNull", 5, 6)])
+        with self.assertRaises(simd_json.SimdJsonError) as caught:
+            list(fields.lines(["{}", "[1,"]))
+        self.assertEqual(caught.exception.lineno, 2)
+
     def test_wrong_is_not_absent(self):
         """A pointer that is none is an error, and an input that is no document has no absent values: the error is that of loads."""
         for pointer in ("a", "$.a", ".a", "a/0", "/~", "/a~", "/~2", "/~~0", "~0", " /a"):

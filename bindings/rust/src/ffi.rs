@@ -6,6 +6,7 @@ use std::{fmt, ptr, slice, str};
 
 /// A node, as the library writes it.
 #[repr(C)]
+#[derive(Debug)]
 pub(crate) struct Node {
     kind: u32,
     pub(crate) len: u32,
@@ -141,9 +142,33 @@ pub(crate) struct Position {
 }
 
 #[repr(C)]
-struct Found {
+struct Extent {
     kind: u32,
     len: usize,
+}
+
+/// What is found: its kind, `MISSING` if there is none, and where it is in the input.
+#[repr(C)]
+#[derive(Debug)]
+struct Field {
+    kind: u32,
+    has_escape: u32,
+    len: usize,
+    value: u64,
+}
+
+const MISSING: u32 = 10;
+
+impl Field {
+    fn is_parsed(&self) -> bool {
+        self.has_escape != 0 || (ValueType::Array as u32..MISSING).contains(&self.kind)
+    }
+
+    /// The node of another one, whose text is in the input.
+    fn node(&self) -> Node {
+        let quotes = u64::from(self.kind == ValueType::String as u32);
+        Node { kind: self.kind, len: (self.len as u64).wrapping_sub(2 * quotes) as u32, value: self.value + quotes }
+    }
 }
 
 /// The nodes of a parser, and the bytes of the input that it has read.
@@ -217,7 +242,17 @@ extern "C" {
     fn simd_json_parser_check(_: *mut RawParser, input: *const u8, _: usize, place: *mut Place) -> i32;
     fn simd_json_parser_scan(_: *mut RawParser, input: *const u8, _: usize, place: *mut Place) -> i32;
     fn simd_json_parser_parse(_: *mut RawParser, _: *mut u8, _: usize, _: *mut Document, place: *mut Place) -> i32;
-    fn simd_json_parser_pointer(_: *mut RawParser, _: *const u8, _: usize, _: *mut Found, _: *mut u8, _: usize) -> i32;
+    fn simd_json_parser_pointer(_: *mut RawParser, _: *const u8, _: usize, _: *mut Extent, _: *mut u8, _: usize) -> i32;
+    fn simd_json_parser_add(_: *mut RawParser, pointer: *const u8, _: usize) -> i32;
+    fn simd_json_parser_pointers(
+        _: *mut RawParser,
+        input: *const u8,
+        _: usize,
+        fields: *mut Field,
+        _: usize,
+        place: *mut Place,
+    ) -> i32;
+    fn simd_json_check(input: *const u8, _: usize, max_depth: usize, place: *mut Place) -> i32;
 }
 
 /// The place and the reason of an error in the input that it is of.
@@ -327,7 +362,7 @@ impl Parser {
     // The length of the value that a pointer names in the input that is kept: it is at the front of `out`, as it is
     // written.
     fn pointer(&mut self, pointer: &str, out: &mut Vec<u8>) -> Result<Option<usize>, Error> {
-        let mut found = Found { kind: 0, len: 0 };
+        let mut found = Extent { kind: 0, len: 0 };
         loop {
             let (name, len, text, room) = (pointer.as_ptr(), pointer.len(), out.as_mut_ptr(), out.len());
             // SAFETY: the pointer is only read, and the rest written, until the call returns.
@@ -458,6 +493,155 @@ impl Index<'_> {
     fn check(&mut self) -> Result<(), Error> {
         let Index { buffers, input, outcome } = self;
         *outcome.get_or_insert_with(|| buffers.check(input))
+    }
+}
+
+/// The values of several JSON Pointers (RFC 6901) in one input after another, each found in one walk.
+///
+/// ```
+/// use simd_json_proved::Fields;
+///
+/// let mut fields = Fields::new(["/status", "/request/path"])?;
+/// for line in [r#"{"status":404,"request":{"path":"/a"}}"#, r#"{"status":200}"#] {
+///     let found = fields.get(line.as_bytes())?;
+///     if found.get(0).is_some_and(|status| status == 404) {
+///         assert_eq!(found.get(1).and_then(|path| path.as_str()), Some("/a"));
+///     }
+/// }
+/// # Ok::<(), simd_json_proved::Error>(())
+/// ```
+#[derive(Debug)]
+pub struct Fields {
+    // what is parsed is an array in the copy
+    buffers: Buffers,
+    max_depth: usize,
+    fields: Vec<Field>,
+    // of each its node, or of what is parsed the index of its node there
+    nodes: Vec<Node>,
+}
+
+impl Fields {
+    /// Prepares pointers, for inputs with at most 1,024 open containers.
+    ///
+    /// # Errors
+    ///
+    /// `InvalidPointer` if one is malformed, `OutOfMemory` if an allocation fails.
+    pub fn new<P: AsRef<str>>(pointers: impl IntoIterator<Item = P>) -> Result<Fields, Error> {
+        Fields::with_max_depth(pointers, MAX_DEPTH)
+    }
+
+    /// The same with another limit of open containers.
+    ///
+    /// # Errors
+    ///
+    /// As of [`Fields::new`].
+    pub fn with_max_depth<P: AsRef<str>>(
+        pointers: impl IntoIterator<Item = P>,
+        max_depth: usize,
+    ) -> Result<Fields, Error> {
+        let mut buffers = Buffers::with_max_depth(max_depth.saturating_add(1))?;
+        let (mut fields, mut nodes) = (Vec::new(), Vec::new());
+        for pointer in pointers {
+            let pointer = pointer.as_ref();
+            check_pointer(pointer)?;
+            fields.try_reserve(1).and(nodes.try_reserve(1)).map_err(|_| OUT_OF_MEMORY)?;
+            // SAFETY: the parser is open, and the pointer only read, until the call returns.
+            let status = unsafe { simd_json_parser_add(&mut buffers.parser.raw, pointer.as_ptr(), pointer.len()) };
+            result_of(status, &NO_PLACE)?;
+            fields.push(Field { kind: MISSING, has_escape: 0, len: 0, value: 0 });
+            nodes.push(Node { kind: MISSING, len: 0, value: 0 });
+        }
+        Ok(Fields { buffers, max_depth, fields, nodes })
+    }
+
+    /// The values in an input, until the next call. Only these and what is on the way to them are checked: they may
+    /// also be found in an input that is not a document. If there is none for a pointer, the input is checked. Strings
+    /// with escapes, arrays and objects are parsed from a copy, other texts are in the input.
+    ///
+    /// # Errors
+    ///
+    /// An error of the whole input, as of [`Buffers::scan`]; the first error of the input, if a value is malformed or
+    /// there is none; `OutOfMemory` if an allocation fails.
+    pub fn get<'f>(&'f mut self, input: &'f [u8]) -> Result<Found<'f>, Error> {
+        let (text, len, fields, count) = (input.as_ptr(), input.len(), self.fields.as_mut_ptr(), self.fields.len());
+        let (parser, mut place) = (&mut self.buffers.parser.raw, NO_PLACE);
+        // SAFETY: the parser is open, the input only read, and the rest written, until the call returns.
+        let status = unsafe { simd_json_parser_pointers(parser, text, len, fields, count, &mut place) };
+        result_of(status, &place)?;
+        if self.fields.iter().any(|field| field.kind == MISSING) {
+            self.check(input)?;
+        }
+        let copy = &mut self.buffers.copy;
+        copy.clear();
+        for (field, node) in self.fields.iter().zip(&mut self.nodes) {
+            *node = field.node();
+            if field.is_parsed() {
+                copy.try_reserve(field.len + 2).map_err(|_| OUT_OF_MEMORY)?;
+                copy.push(if copy.is_empty() { b'[' } else { b',' });
+                copy.extend_from_slice(&input[field.value as usize..][..field.len]);
+            }
+        }
+        let parsed = if copy.is_empty() { None } else { Some(self.parse(input)?) };
+        // SAFETY: the buffers are borrowed as long.
+        let parsed = parsed.map(|document| unsafe { document.nodes() });
+        Ok(Found { fields: &self.fields, nodes: &self.nodes, input, parsed })
+    }
+
+    // The array in the copy, and where each field is in it.
+    fn parse(&mut self, input: &[u8]) -> Result<Document, Error> {
+        let Buffers { parser, copy } = &mut self.buffers;
+        copy.push(b']');
+        let document = parser.parse(copy).map_err(|error| match error.kind {
+            ErrorType::OutOfMemory => error,
+            _ => self.check(input).err().unwrap_or(error),
+        })?;
+        // SAFETY: the buffers are not used before these end.
+        let parsed = unsafe { document.nodes() };
+        let mut at = 1;
+        for (_, node) in self.fields.iter().zip(&mut self.nodes).filter(|(field, _)| field.is_parsed()) {
+            node.value = at as u64;
+            at += parsed.nodes[at].count();
+        }
+        Ok(document)
+    }
+
+    fn check(&self, input: &[u8]) -> Result<(), Error> {
+        let mut place = NO_PLACE;
+        // SAFETY: the input is only read, and the place written, until the call returns.
+        let status = unsafe { simd_json_check(input.as_ptr(), input.len(), self.max_depth, &mut place) };
+        result_of(status, &place)
+    }
+}
+
+/// What [`Fields::get`] has found: of each pointer, in their order, the value or `None`.
+#[derive(Clone, Copy)]
+pub struct Found<'f> {
+    fields: &'f [Field],
+    nodes: &'f [Node],
+    input: &'f [u8],
+    parsed: Option<Nodes<'f, 'f>>,
+}
+
+impl<'f> Found<'f> {
+    /// The value of the pointer with this number, from 0; `None` if there is none, or no such pointer.
+    pub fn get(&self, index: usize) -> Option<Value<'f>> {
+        let field = self.fields.get(index).filter(|field| field.kind != MISSING)?;
+        Some(Value(match self.parsed {
+            Some(parsed) if field.is_parsed() => parsed.from(self.nodes[index].value as usize),
+            _ => Nodes { nodes: &self.nodes[index..=index], bytes: self.input },
+        }))
+    }
+
+    /// The values of all pointers.
+    pub fn iter(&self) -> impl ExactSizeIterator<Item = Option<Value<'f>>> + 'f {
+        let found = *self;
+        (0..found.fields.len()).map(move |index| found.get(index))
+    }
+}
+
+impl fmt::Debug for Found<'_> {
+    fn fmt(&self, f: &mut fmt::Formatter<'_>) -> fmt::Result {
+        f.debug_list().entries(self.iter()).finish()
     }
 }
 

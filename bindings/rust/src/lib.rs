@@ -12,7 +12,7 @@ mod value;
 #[cfg(feature = "serde")]
 pub use de::{from_slice, from_slice_mut, from_slice_mut_with, from_slice_with, from_str, ReadError};
 pub use error::{Error, ErrorType, Location};
-pub use ffi::{check, Buffers, Index};
+pub use ffi::{check, Buffers, Fields, Found, Index};
 pub use value::{Array, Object, Tape, Value, ValueType};
 
 #[cfg(doctest)]

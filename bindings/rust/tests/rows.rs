@@ -1,5 +1,5 @@
 //! The rows of tests/vectors, whose answers are in the files.
-use simd_json_proved::{check, to_owned_tape, to_tape, Buffers, ErrorType, Tape, Value, ValueType};
+use simd_json_proved::{check, to_owned_tape, to_tape, Buffers, ErrorType, Fields, Tape, Value, ValueType};
 use std::fs;
 use std::path::Path;
 
@@ -448,6 +448,76 @@ fn absent_is_not_wrong() {
         }
         assert!(!is_wrong || parsed.is_err(), "{text}");
     }
+}
+
+#[test]
+fn fields_are_found() {
+    let line = concat!(
+        r#"{"status":404,"path":"/a","quoted":"\"\u00e9","tags":["x",{"y":[]}],"ratio":-2.50,"wide":18446744073709551616,"#,
+        r#""low":-7,"on":true,"none":null,"status":1,"user":{"id":7,"n":"\n"}}"#
+    );
+    let rows = [
+        ("/status", "404"), ("/path", r#""/a""#), ("/quoted", r#""\"é""#), ("/tags", r#"["x",{"y":[]}]"#), ("/ratio", "-2.50"),
+        ("/wide", "18446744073709551616"), ("/low", "-7"), ("/on", "true"), ("/none", "null"), ("/absent", ""), ("/user/id", "7"),
+        ("/tags/1/y", "[]"), ("/user", r#"{"id":7,"n":"\n"}"#), ("/quoted", r#""\"é""#), ("/path", r#""/a""#), ("/tags/2", ""),
+    ];
+    let mut fields = Fields::new(rows.map(|row| row.0)).unwrap();
+    for _ in 0..2 {
+        let found = fields.get(line.as_bytes()).unwrap();
+        for (value, (pointer, wanted)) in found.iter().zip(rows) {
+            assert_eq!(value.map_or(String::new(), |value| value.to_string()), wanted, "{pointer}");
+        }
+        let at = |index| found.get(index).unwrap();
+        assert!(at(0) == 404 && at(1) == "/a" && at(2) == "\"é" && at(4) == -2.5 && at(7) == true && found.get(16).is_none());
+        assert_eq!((at(4).as_decimal(), at(5).as_u128(), at(6).as_i8()), (Some("-2.50"), Some(1 << 64), Some(-7)));
+        assert_eq!(at(3).as_array().unwrap().map(|value| value.value_type()).last(), Some(ValueType::Object));
+        assert!(at(12).get("n").unwrap() == "\n" && at(3).pointer("/1/y").unwrap().is_some() && at(8).is_null());
+        // A string without escapes is in the line.
+        assert!(line.as_bytes().as_ptr_range().contains(&at(1).as_str().unwrap().as_ptr()));
+        assert_eq!((found.iter().len(), at(1).get("a").is_none(), at(0).pointer("").unwrap().is_some()), (16, true, true));
+    }
+    // They may be used by another thread, and be of strings that are owned.
+    let names: Vec<String> = (0..1000).map(|index| format!("/{}", index % 700)).collect();
+    let mut fields = Fields::new(&names).unwrap();
+    let text = format!("[{}]", (0..700).map(|n| if n % 3 == 0 { format!("\"\\n{n}\"") } else { n.to_string() }).collect::<Vec<_>>().join(","));
+    let sum = move || {
+        let text = text.as_bytes();
+        (0..2).map(|_| fields.get(text).unwrap().iter().filter(|value| value.unwrap().as_str().is_some()).count()).sum::<usize>()
+    };
+    assert_eq!(std::thread::spawn(sum).join().unwrap(), 2 * (0..1000).filter(|index| index % 700 % 3 == 0).count());
+}
+
+// As by an index: what is absent is none, what is wrong has the error of the input.
+#[test]
+fn fields_are_those_of_an_index() {
+    let texts = [
+        r#"{"a":1,"b":tru}"#, r#"{"a":[1,,2],"b":1}"#, r#"{"a":"\q","b":1}"#, r#"{"a":1"#, r#"{"a":1} x"#, "", "nope", "[1,]", "7",
+        r#"{"a":1,"b":[1}"#, r#"{"a":1,"b":"\n"} x"#, "{}", r#"{"a":[[[]]]}"#, r#"{"a":[[[[]]]]}"#, "[[[]]]", "[[[[]]]]", "{\"a\":\"\n\"}",
+        r#"{"b":{"c":"\u0041"},"a":0.1}"#, "\"\\ud83d\"", "\"\\ud83d\\ude00\"",
+    ];
+    let pointers = [&["/a", "/b"][..], &[""], &["/a"], &["/b/c", "", "/a"], &[]];
+    let mut buffers = Buffers::with_max_depth(3).unwrap();
+    for text in texts.map(str::as_bytes) {
+        for pointers in pointers {
+            let mut fields = Fields::with_max_depth(pointers, 3).unwrap();
+            let mut of = |pointer: &&str| Ok(buffers.scan(text)?.pointer(pointer)?.map(|value| value.to_string()));
+            let wanted: Result<Vec<_>, simd_json_proved::Error> = pointers.iter().map(&mut of).collect();
+            let found = fields.get(text).map(|found| found.iter().map(|value| value.map(|value| value.to_string())).collect());
+            if !pointers.is_empty() {
+                assert_eq!(found, wanted, "{} {pointers:?}", String::from_utf8_lossy(text));
+            }
+        }
+    }
+    assert_eq!(Fields::new([""; 0]).unwrap().get(b"[\"\xff\"]").unwrap_err().error(), ErrorType::InvalidUtf8);
+    assert_eq!(Fields::new([""; 0]).unwrap().get(b"[1").unwrap().iter().count(), 0);
+    for (pointer, at) in [("a", 0), ("/~", 1), ("/a~2", 2)] {
+        assert_eq!(Fields::new(["/a", pointer]).unwrap_err().index(), at);
+    }
+    let deep = [b"[".repeat(1025), b"]".repeat(1025)].concat();
+    let mut root = Fields::new([""]).unwrap();
+    assert_eq!(root.get(&deep[1..2049]).unwrap().get(0).unwrap().to_string().len(), 2048);
+    assert_eq!(root.get(&deep).unwrap_err().error(), ErrorType::DepthLimitExceeded);
+    assert_eq!(Fields::with_max_depth([""], usize::MAX).unwrap().get(&deep).unwrap().get(0).unwrap().as_array().unwrap().len(), 1);
 }
 
 #[test]
