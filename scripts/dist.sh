@@ -32,6 +32,8 @@ done
 SIMD_JSON_LIB_DIR=$v2 SIMD_JSON_V3_LIB_DIR=$v3 python3 -B python/backend.py "$to/python" > /dev/null
 cp -R bindings/rust/Cargo.toml bindings/rust/README.md bindings/rust/build.rs bindings/rust/src "$to/rust/"
 cp LICENSE-MIT LICENSE-APACHE CHANGELOG.md SECURITY.md "$to/"
+# shellcheck disable=SC2046
+python3 -B scripts/sbom.py "$to" $(printf '%s_main ' "$@") simd_json_c
 mkdir -p "$to/docs" "$to/examples/c" "$to/examples/log"
 cp docs/READING.md docs/PROGRAMS.md "$to/docs/"
 cp examples/c/answer.c "$to/examples/c/"
@@ -42,3 +44,4 @@ for file in log.c log.cpp log.py log.rs Cargo.toml log.jsonl; do cp "examples/lo
 mv "$parts/SHA256SUMS" "$to/"
 tar -C build --sort=name --owner=0 --group=0 --numeric-owner --mtime=2026-01-01T00:00Z -c "$name" | gzip -9n > "$to.tar.gz"
 (cd build && sha256sum "$name.tar.gz" | tee SHA256SUMS)
+sh scripts/deb.sh

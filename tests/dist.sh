@@ -30,6 +30,7 @@ prints() {
 }
 
 run make -s dist
+run sh tests/reproduce.sh
 version=$(sed -n 's/^#define SIMD_JSON_VERSION_[A-Z]* //p' include/simd_json.h | paste -sd.)
 release=simd_json-$version-x86_64-linux
 tar -xzf "build/$release.tar.gz" -C "$room"
@@ -58,7 +59,18 @@ for file in "$at"/bin/* "$at/lib/libsimd_json.so.$version" "$fast/libsimd_json.s
     last=$({ objdump -T "$file" | grep -o 'GLIBC_[0-9.]*' || true; echo GLIBC_2.31; } | sort -V | tail -n 1)
     [ "$last" = GLIBC_2.31 ] || wrong "${file#"$room"/} needs $last"
     prints "the libraries of ${file#"$room"/}" libc.so.6 sh -c "objdump -p '$file' | sed -n 's/^ *NEEDED *//p'"
+    readelf -d "$file" | grep -Eq 'BIND_NOW|Flags: NOW' || wrong "${file#"$room"/} binds at first use"
 done
+
+# What is linked in is listed, each library of the toolchain with a license's text where it has one.
+run python3 -B - "$at" << 'END'
+import json, pathlib, sys
+at = pathlib.Path(sys.argv[1])
+packages = {each["name"]: each for each in json.loads((at / "simd_json.spdx.json").read_text())["packages"]}
+assert {"simd_json", "memchr", "fast_float", "clap", "std", "rattle-c"} <= packages.keys(), packages.keys()
+for name, each in packages.items():
+    assert name in ("simd_json", "rattle-c") or (each["licenseDeclared"] == "NOASSERTION") != (at / "licenses" / name).is_dir(), name
+END
 
 if command -v groff > /dev/null; then
     for page in "$at"/share/man/man?/*; do prints "${page##*/}" '' groff -ww -man -z -Tutf8 "$page"; done
@@ -133,6 +145,13 @@ else
 fi
 
 cd "$top"
+deb=build/simd-json-proved_${version}_amd64.deb
+if [ -e "$deb" ]; then
+    said=$(sh tests/deb.sh "$deb") || wrong "$said"
+    left_out="$left_out${said#*left out:}"
+else
+    left_out="$left_out the Debian package (no dpkg-deb);"
+fi
 
 # Both levels: of the library the rows of tests/vectors, of the programs what is known of them, and which of two is begun.
 mkdir "$room/slow"
