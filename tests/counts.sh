@@ -31,11 +31,11 @@ wrong=$(
         cat $(find crates -path "crates/*/$1/*" -name "$2" -not -path '*/out/*' |
             grep -vE '^crates/([a-z_]*_(tests|bench|rows)|typed_log|log_fields)/') | wc -l
     }
-    most 'lines of sources' "$(lines src '*.rt')" 30100
-    most 'lines of definitions' "$(lines specs '*.antt')" 10000
-    most 'lines of proofs' "$(lines proofs '*.antt')" 52800
+    most 'lines of sources' "$(lines src '*.rt')" 33800
+    most 'lines of definitions' "$(lines specs '*.antt')" 11450
+    most 'lines of proofs' "$(lines proofs '*.antt')" 57400
     most 'lines of wrappers, which nothing proves' \
-        "$(cat python/native.c include/simd_json.h include/simd_json.hpp bindings/rust/src/*.rs bindings/rust/src/*/*.rs | wc -l)" 3910
+        "$(cat python/native.c include/simd_json.h include/simd_json.hpp bindings/rust/src/*.rs bindings/rust/src/*/*.rs | wc -l)" 4500
     most 'words of documents, without code' \
         "$(git ls-files '*.md' | xargs cat | awk '/^ *```/ { code = !code; next } !code' | wc -w)" 10500
 )
