@@ -84,6 +84,8 @@ if command -v c++ > /dev/null; then
     rejects 19 'deleted.*parse_in_place'
     rejects 20 'deleted.*operator\[\]'
     rejects 21 'operator\[\]'
+    for case in 23 24; do rejects $case 'deleted.*get'; done
+    rejects 25 'call to.*fields'
     echo '#include <simd_json.hpp>' > "$room/old.cpp"
     for option in -std=c++14 -fno-exceptions; do
         if c++ "$option" -fsyntax-only -Iinclude "$room/old.cpp" 2> "$room/log" ||

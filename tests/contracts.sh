@@ -11,16 +11,11 @@ trap 'rm -rf "$room"' EXIT
 
 cat > "$room/exceptions" << 'END'
 programs arguments                    no contract says which words the system passes
-programs Source::new                  no contract says which bytes a file has
 programs print_ending                 no contract says what standard error shows
-jcheck Options::depth                 options are tested (tests/statuses.sh)
-jcheck Options::has_lines             as above
-jcheck Options::color                 as above
-jcheck Options::files                 as above
-jcheck asked                          as above
-jpick asked                           as above
-log_report Options::wanted            as above
-log_report Options::files             as above
+jpick asked                           options are tested (tests/statuses.sh)
+jpick Spare::new                      the lists are memory for the next value
+jpick Spare::reserve                  as above
+jpick Spare::allocator                as above
 simd_json_serde NodeReader::into_outer  the list is empty memory for the next reader
 END
 
